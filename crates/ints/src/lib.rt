@@ -1,0 +1,1 @@
+// Laws of the integers, cited by other crates: no code.

@@ -1,0 +1,8 @@
+pub mod Pointwise
+pub mod Order
+pub mod Sides
+pub mod CommonEdge
+pub mod Area
+pub mod Rows
+pub mod Starred
+pub mod Unique

@@ -1,0 +1,147 @@
+-- A drawn triangle and a clear are what their pixel-by-pixel readings say, and nothing else is: the cells are known from the turns, and
+-- two memories with equal cells and equal bytes elsewhere are equal.
+use Prim.Native.Nat.{ℕ, _+_, _<_}
+use mathlib.Core.Path.{_≡_, refl, sym, _∙_, ap}
+use mathlib.Core.Logic.{_≢_, inl, inr}
+use mathlib.Core.Bool.{Bool, true, false}
+use mathlib.Core.List.{List}
+use lib.ListN.{length, getD}
+use Rattle.rules.specs.declared.Screen.{Screen}
+use Rattle.rules.specs.declared.Triangle.{Triangle}
+use Rattle.rules.specs.Turns.{choose}
+use Rattle.rules.specs.Sizes.{width, height, sound, colourAt, depthAt, half}
+use Rattle.rules.specs.Triangles.{written, triangleColour, triangleDepth, drawn}
+use Rattle.rules.specs.Calls.{cleared}
+use Rattle.rules.proofs.Halves.{joined, joined-split}
+use Rattle.rules.proofs.Pixels.{On, ByteOf, Outside, sound-facts, Cell, cell, painted}
+use Rattle.rules.proofs.Memory.{same-memory, on-rows}
+use Rattle.rules.proofs.Drawing.{merged-cell, touched-drawn, touched-cleared}
+use Rattle.order.specs.Pointwise.{Reads, Elsewhere, Painted}
+
+outside : {s : Screen} {b : ℕ} → Elsewhere s b → Outside s b
+outside e = record {
+  no-colour = λ {x} {y} p. neither (e .no-colour x y (p .across) (p .down));
+  no-depth = λ {x} {y} p. neither (e .no-depth x y (p .across) (p .down));
+}
+  where
+    neither : {a b : ℕ} → (b ≢ a) × (b ≢ a + 1) → ¬ ByteOf a b
+    neither n (inl q) = n .0 q
+    neither n (inr q) = n .1 q
+
+elsewhere : {s : Screen} {b : ℕ} → Outside s b → Elsewhere s b
+elsewhere o = record {
+  no-colour = λ x y h v. let n = o .no-colour (record { across = h; down = v }) in (λ q. n (inl q), λ q. n (inr q));
+  no-depth = λ x y h v. let n = o .no-depth (record { across = h; down = v }) in (λ q. n (inl q), λ q. n (inr q));
+}
+
+-- four bytes as a cell
+module _ (s : Screen) (m : List ℕ) (x y : ℕ) (c : Cell) where
+  abbrev Shows : Type 0
+  Shows =
+      Reads m (colourAt s x y) (c .colour .high) (c .colour .low)
+      × Reads m (depthAt s x y) (c .depth .high) (c .depth .low)
+
+  shows : cell s m x y ≡ c → Shows
+  shows e = (
+    record { first = ap (λ z. z .colour .high) e; second = ap (λ z. z .colour .low) e },
+    record { first = ap (λ z. z .depth .high) e; second = ap (λ z. z .depth .low) e },
+  )
+
+  shown : Shows → cell s m x y ≡ c
+  shown r = λ i. record {
+    colour = record { high = r .0 .first i; low = r .0 .second i };
+    depth = record { high = r .1 .first i; low = r .1 .second i };
+  }
+
+module _ (s : Screen) (picked : ℕ → ℕ → Bool) (colour depth : ℕ → ℕ → ℕ) (m : List ℕ) where
+  abbrev new : ℕ → ℕ → Bool → Cell
+  new x y b = choose b (painted (colour x y) (depth x y)) (cell s m x y)
+
+  from-cells : (after : List ℕ) → length after ≡ length m
+      → ((x y : ℕ) → On s x y → cell s after x y ≡ new x y (picked x y))
+      → ((b : ℕ) → Outside s b → getD after b 0 ≡ getD m b 0)
+      → Painted s picked colour depth m after
+  from-cells after l c o = record {
+    same-length = l;
+    painted = λ x y h v e. shows s after x y (new x y true) (c x y (record { across = h; down = v }) ∙ ap (new x y) e);
+    stays = λ x y h v e. shows s after x y (new x y false) (c x y (record { across = h; down = v }) ∙ ap (new x y) e);
+    elsewhere = λ b e. o b (outside e);
+  }
+
+  to-cells : {after : List ℕ}
+      → Painted s picked colour depth m after
+      → (x y : ℕ)
+      → On s x y
+      → cell s after x y ≡ new x y (picked x y)
+  to-cells {after} p x y q = go (picked x y) refl
+    where
+      go : (b : Bool) → picked x y ≡ b → cell s after x y ≡ new x y b
+      go true e = shown s after x y (new x y true) (p .painted x y (q .across) (q .down) e)
+      go false e = shown s after x y (new x y false) (p .stays x y (q .across) (q .down) e)
+
+-- no other memory has the same reading
+pub painted-unique : {s : Screen} {picked : ℕ → ℕ → Bool} {colour depth : ℕ → ℕ → ℕ} {m k l : List ℕ}
+    → Painted s picked colour depth m k
+    → Painted s picked colour depth m l
+    → k ≡ l
+painted-unique {s} {picked} {colour} {depth} {m} {k} {l} p q =
+    same-memory s k l
+    (p .same-length ∙ sym (q .same-length))
+    (λ x y o. to-cells s picked colour depth m p x y o ∙ sym (to-cells s picked colour depth m q x y o))
+    (λ b o. p .elsewhere b (elsewhere o) ∙ sym (q .elsewhere b (elsewhere o)))
+
+-- in half-words
+module _
+    {s : Screen}
+    {picked : ℕ → ℕ → Bool}
+    {colour depth : ℕ → ℕ → ℕ}
+    {m after : List ℕ}
+    (p : Painted s picked colour depth m after)
+    (x y : ℕ)
+    (a : x < width (s .size))
+    (b : y < height (s .size))
+  where
+    on : On s x y
+    on = record { across = a; down = b }
+
+    pub painted-colour : half after (colourAt s x y) ≡ choose (picked x y) (colour x y) (half m (colourAt s x y))
+    unfolding half
+    painted-colour = ap (λ c. joined (c .colour)) (to-cells s picked colour depth m p x y on) ∙ go (picked x y)
+      where
+        go : (t : Bool) → joined (new s picked colour depth m x y t .colour) ≡ choose t (colour x y) (half m (colourAt s x y))
+        go true = joined-split (colour x y)
+        go false = refl
+
+    pub painted-depth : half after (depthAt s x y) ≡ choose (picked x y) (depth x y) (half m (depthAt s x y))
+    unfolding half
+    painted-depth = ap (λ c. joined (c .depth)) (to-cells s picked colour depth m p x y on) ∙ go (picked x y)
+      where
+        go : (t : Bool) → joined (new s picked colour depth m x y t .depth) ≡ choose t (depth x y) (half m (depthAt s x y))
+        go true = joined-split (depth x y)
+        go false = refl
+
+module _ (s : Screen) (m : List ℕ) (h : sound (length m) s ≡ true) where
+  pub drawn-pointwise : (t : Triangle) → Painted s (written t s m) (triangleColour t) (triangleDepth t) m (drawn t s m)
+  drawn-pointwise t =
+      let d = touched-drawn (sound-facts h) t m refl in
+      from-cells s (written t s m) (triangleColour t) (triangleDepth t) m (drawn t s m) (d .same-length)
+      (λ x y p. d .changed p (on-rows p) ∙ merged-cell t s m x y)
+      (λ b o. d .beyond o)
+
+  pub cleared-pointwise : (colour depth : ℕ)
+      → Painted s (λ x y. true) (λ x y. colour) (λ x y. depth) m (cleared s colour depth m)
+  cleared-pointwise colour depth =
+      let d = touched-cleared (sound-facts h) colour depth m refl in
+      from-cells s (λ x y. true) (λ x y. colour) (λ x y. depth) m (cleared s colour depth m) (d .same-length)
+      (λ x y p. d .changed p (on-rows p))
+      (λ b o. d .beyond o)
+
+  pub drawn-unique : (t : Triangle) (after : List ℕ)
+      → Painted s (written t s m) (triangleColour t) (triangleDepth t) m after
+      → after ≡ drawn t s m
+  drawn-unique t after p = painted-unique p (drawn-pointwise t)
+
+  pub cleared-unique : (colour depth : ℕ) (after : List ℕ)
+      → Painted s (λ x y. true) (λ x y. colour) (λ x y. depth) m after
+      → after ≡ cleared s colour depth m
+  cleared-unique colour depth after p = painted-unique p (cleared-pointwise colour depth)

@@ -1,0 +1,1 @@
+// Theorems about the drawing, over its definitions. There is no code here.

@@ -1,0 +1,5 @@
+pub mod Turns
+pub mod Halves
+pub mod Pixels
+pub mod Memory
+pub mod Drawing

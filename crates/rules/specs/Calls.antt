@@ -1,0 +1,45 @@
+-- What each call leaves: its number, its counts and every byte of the lent memory. "Every number but 0 comes with counts of 0 ..
+-- and all lent memory as it was."
+use Prim.Native.Nat.{ℕ, _+_, _*_}
+use mathlib.Core.Path.{_≡_}
+use mathlib.Core.List.{List, []}
+use lib.ListN.{length, take, drop}
+use lib.Dec.{eqb}
+use Rattle.rules.specs.declared.Screen.{Screen}
+use Rattle.rules.specs.declared.Triangle.{Triangle}
+use Rattle.rules.specs.declared.Drawn.{Drawn}
+use Rattle.rules.specs.Turns.{upto, choose}
+use Rattle.rules.specs.Sizes.{width, height, colourAt, putPixel}
+use Rattle.rules.specs.Numbers.{clearNumber, rowNumber, triangleNumber}
+use Rattle.rules.specs.Triangles.{coveredPixels, writtenPixels, drawn}
+
+-- "a clear (every pixel of a screen to one given colour and one given depth, all else kept)"
+unfoldable pub cleared : Screen → ℕ → ℕ → List ℕ → List ℕ
+cleared s colour depth m =
+    upto (λ y. upto (λ x. putPixel s x y colour depth) (width (s .size))) (height (s .size)) m
+
+-- what is kept where the number is not 0
+abbrev pub accepted : {A : Type 0} → ℕ → A → A → A
+accepted number done kept = choose (eqb number 0) done kept
+
+-- a clear from memory m: it answers `number` and leaves the memory `after`
+pub record Clears (m : List ℕ) (s : Screen) (colour depth : ℕ) (number : ℕ) (after : List ℕ) : Type 0 where
+  pub answers : number ≡ clearNumber (length m) s
+  pub leaves : after ≡ accepted (clearNumber (length m) s) (cleared s colour depth m) m
+
+-- drawing a triangle from memory m: it answers `answer` and leaves the memory `after`
+pub record Draws (m : List ℕ) (s : Screen) (t : Triangle) (answer : Drawn) (after : List ℕ) : Type 0 where
+  pub answers : answer .number ≡ triangleNumber (length m) s t
+  pub covers : answer .covered ≡ accepted (triangleNumber (length m) s t) (coveredPixels t s) 0
+  pub writes : answer .written ≡ accepted (triangleNumber (length m) s t) (writtenPixels t s m) 0
+  pub leaves : after ≡ accepted (triangleNumber (length m) s t) (drawn t s m) m
+
+-- where a row's own bytes start and how many they are: "the 2 × width colour bytes of one row", or none where refused
+unfoldable pub rowStart : ℕ → Screen → ℕ → ℕ
+rowStart ramLength s row = accepted (rowNumber ramLength s row) (colourAt s 0 row) 0
+
+unfoldable pub rowLength : ℕ → Screen → ℕ → ℕ
+rowLength ramLength s row = accepted (rowNumber ramLength s row) (2 * width (s .size)) 0
+
+unfoldable pub rowBytes : List ℕ → Screen → ℕ → List ℕ
+rowBytes m s row = take (rowLength (length m) s row) (drop (rowStart (length m) s row) m)

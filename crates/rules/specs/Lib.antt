@@ -1,0 +1,6 @@
+-- Document 01, section by section: Sizes, Numbers, Triangles, Rows. Turns has the plain recursions that they use.
+pub mod Turns
+pub mod Sizes
+pub mod Triangles
+pub mod Numbers
+pub mod Calls

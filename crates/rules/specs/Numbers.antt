@@ -1,0 +1,58 @@
+-- 01, "Numbers a call answers": for each kind of call the lowest number that applies.
+use Prim.Native.Nat.{ℕ}
+use mathlib.Core.Bool.{Bool, _&&_, _||_, not}
+use lib.Dec.{leb, ltb}
+use lib.IntN.{ℤ, pos, negsuc}
+use lib.Signed.{leZ}
+use Rattle.rules.specs.declared.Screen.{Screen}
+use Rattle.rules.specs.declared.Triangle.{Triangle}
+use Rattle.rules.specs.Turns.{pixels, choose}
+use Rattle.rules.specs.Sizes.{ramLimit, width, height, sound}
+use Rattle.rules.specs.Triangles.{Edge, edge1, edge2, edge3, edgeValue, sample}
+
+-- 3: "RAM longer than 4,194,304 bytes"
+abbrev pub tooLong : ℕ → Bool
+tooLong ramLength = ltb ramLimit ramLength
+
+-- 6: "a vertex number outside -8192..8191"
+abbrev pub vertexInRange : ℤ → Bool
+vertexInRange v = leZ (negsuc 8191) v && leZ v (pos 8191)
+
+unfoldable pub verticesInRange : Triangle → Bool
+verticesInRange t =
+    vertexInRange (t .x1)
+    && vertexInRange (t .y1)
+    && vertexInRange (t .x2)
+    && vertexInRange (t .y2)
+    && vertexInRange (t .x3)
+    && vertexInRange (t .y3)
+
+-- 7: "an edge value at some pixel of the screen outside signed 32 bits"
+abbrev pub inSigned32 : ℤ → Bool
+inSigned32 v = leZ (negsuc 2147483647) v && leZ v (pos 2147483647)
+
+unfoldable pub edgeTooLarge : Edge → ℕ → ℕ → Bool
+edgeTooLarge e x y = not (inSigned32 (edgeValue e (sample x y)))
+
+unfoldable pub triangleTooLarge : Triangle → ℕ → ℕ → Bool
+triangleTooLarge t w h =
+    ltb 0 (pixels (λ x y. edgeTooLarge (edge1 t) x y || edgeTooLarge (edge2 t) x y || edgeTooLarge (edge3 t) x y) w h)
+
+-- "a clear 3 and 5"
+unfoldable pub clearNumber : ℕ → Screen → ℕ
+clearNumber ramLength s = choose (tooLong ramLength) 3 (choose (not (sound ramLength s)) 5 0)
+
+-- "rows 3, 5, 8"; 8: "row not below the height"
+unfoldable pub rowNumber : ℕ → Screen → ℕ → ℕ
+rowNumber ramLength s row =
+    choose (tooLong ramLength) 3
+    (choose (not (sound ramLength s)) 5
+    (choose (not (ltb row (height (s .size)))) 8 0))
+
+-- "triangles 3, 5, 6, 7"
+unfoldable pub triangleNumber : ℕ → Screen → Triangle → ℕ
+triangleNumber ramLength s t =
+    choose (tooLong ramLength) 3
+    (choose (not (sound ramLength s)) 5
+    (choose (not (verticesInRange t)) 6
+    (choose (triangleTooLarge t (width (s .size)) (height (s .size))) 7 0)))

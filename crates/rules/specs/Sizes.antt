@@ -1,0 +1,58 @@
+-- 01, "Sizes": the RAM, the screen and its size number, and where a pixel's colour and depth stand.
+use Prim.Native.Nat.{ℕ, _+_, _*_, _/_, _%_}
+use mathlib.Core.Bool.{Bool, _&&_, _||_}
+use mathlib.Core.List.{List}
+use lib.ListN.{getD, set}
+use lib.Dec.{leb, eqb}
+use Rattle.rules.specs.declared.Screen.{Screen}
+
+-- "External RAM: 0 to 4,194,304 bytes"
+abbrev pub ramLimit : ℕ
+ramLimit = 4194304
+
+-- "S div 512 is the width in groups of 16 pixels, 1 to 40; S mod 512 is the height, 1 to 480"
+abbrev pub groups : ℕ → ℕ
+groups S = S / 512
+
+abbrev pub width : ℕ → ℕ
+width S = groups S * 16
+
+abbrev pub height : ℕ → ℕ
+height S = S % 512
+
+abbrev pub sizeInRange : ℕ → Bool
+sizeInRange S = leb 1 (groups S) && leb (groups S) 40 && leb 1 (height S) && leb (height S) 480
+
+abbrev pub even : ℕ → Bool
+even n = eqb (n % 2) 0
+
+-- "each area (width × height × 2 bytes, row by row)"
+abbrev pub area : ℕ → ℕ
+area S = width S * height S * 2
+
+-- "A screen is sound when S is in that range, both starts are even, each area lies within RAM, and the areas do not overlap.
+-- Touching is allowed."
+unfoldable pub sound : ℕ → Screen → Bool
+sound ramLength s =
+    sizeInRange (s .size)
+    && (even (s .colour) && even (s .depth))
+    && (leb (s .colour + area (s .size)) ramLength && leb (s .depth + area (s .size)) ramLength)
+    && (leb (s .colour + area (s .size)) (s .depth) || leb (s .depth + area (s .size)) (s .colour))
+
+-- where the colour and the depth of pixel (x, y) stand, "row by row"
+unfoldable pub colourAt : Screen → ℕ → ℕ → ℕ
+colourAt s x y = s .colour + (y * width (s .size) + x) * 2
+
+unfoldable pub depthAt : Screen → ℕ → ℕ → ℕ
+depthAt s x y = s .depth + (y * width (s .size) + x) * 2
+
+-- "half-words big-endian"
+unfoldable pub half : List ℕ → ℕ → ℕ
+half m a = getD m a 0 * 256 + getD m (a + 1) 0
+
+unfoldable pub putHalf : List ℕ → ℕ → ℕ → List ℕ
+putHalf m a v = set (set m a (v / 256)) (a + 1) (v % 256)
+
+-- a pixel's colour and depth, written
+unfoldable pub putPixel : Screen → ℕ → ℕ → ℕ → ℕ → List ℕ → List ℕ
+putPixel s x y colour depth m = putHalf (putHalf m (colourAt s x y) colour) (depthAt s x y) depth

@@ -1,0 +1,4 @@
+pub mod Bounds
+pub mod Fills
+pub mod RowBounds
+pub mod Tests

@@ -1,0 +1,88 @@
+-- `clear::fill` leaves `filled`. The loop's invariant: the first i half-words are stored. The measure is what is left of the count.
+-- Assumes nothing.
+use Prim.Native.Nat.{_+_, _*_, _-_, _≤_, _<_, zero-le}
+use mathlib.Core.Path.{_≡_, refl, sym, _∙_, ap}
+use borrow.Author.Needs.{needs}
+use lib.ListN.{length, length-set}
+use native.Mathlib.Omega.{arith}
+use Rattle.rules.specs.Sizes.{putHalf}
+use Rattle.screen.specs.Fills.{filled}
+use Rattle.screen.proofs.Fills.{filled-none, filled-more, length-filled}
+use Rattle.screen.proofs.clear.fill.Statement.{statement}
+use Rattle.screen.proofs.clear.fill.Tie as tie
+
+abbrev Inv-loop : tie.InvT-loop
+Inv-loop ram₀ start count v high low i₀ ram i = (i ≤ count) × (ram ≡ filled start v i ram₀)
+
+abbrev μ-loop : tie.MeasureT-loop
+μ-loop ram₀ start count v high low i₀ ram i = count - i
+
+kept : (c : tie.At-loop Inv-loop μ-loop) → length (c .loop .ram) ≡ length (c .before .args .ram .now)
+kept c = ap length (c .loop .inv .1) ∙ length-filled _ _ _ _
+
+whole : (c : tie.After-loop Inv-loop μ-loop) → c .before .loop .i ≡ c .before .before .args .count
+whole c = omega arith
+
+cast-high : tie.Need-cast-high Inv-loop μ-loop
+cast-high c = search needs
+
+cast-low : tie.Need-cast-low Inv-loop μ-loop
+cast-low c = search needs
+
+loop-holds : tie.Need-loop-holds Inv-loop μ-loop
+loop-holds c = (zero-le, sym (filled-none _ _ _))
+
+mul-a : tie.Need-mul-a Inv-loop μ-loop
+mul-a c = omega arith
+
+add-a : tie.Need-add-a Inv-loop μ-loop
+add-a c = omega arith
+
+slice-write-ram : tie.Need-slice-write-ram Inv-loop μ-loop
+slice-write-ram c = omega (arith, kept (c .before))
+
+add-ram : tie.Need-add-ram Inv-loop μ-loop
+add-ram c = omega arith
+
+slice-write-ram-2 : tie.Need-slice-write-ram-2 Inv-loop μ-loop
+slice-write-ram-2 c = simp length-set (omega (arith, kept (c .before)))
+
+add-i : tie.Need-add-i Inv-loop μ-loop
+add-i c = omega arith
+
+loop-less : tie.Need-loop-less Inv-loop μ-loop
+loop-less c = omega arith
+
+loop-again : tie.Need-loop-again Inv-loop μ-loop
+unfolding putHalf
+loop-again c = (omega arith, ap (λ m. putHalf m (c .before .before .args .start + c .before .loop .i * 2) (c .before .before .args .v)) (c .before .loop .inv .1) ∙ sym (filled-more _ _ _ _))
+
+same-length : tie.Need-same-length Inv-loop μ-loop
+same-length c = kept (c .before)
+
+returns : tie.Need-returns Inv-loop μ-loop
+returns c =
+    c .before .loop .inv .1
+    ∙ ap
+    (λ i. filled (c .before .before .args .start) (c .before .before .args .v) i (c .before .before .args .ram .now))
+    (whole c)
+
+pub fill-spec : {M : Type 1} → statement M
+fill-spec =
+    tie.close
+    (tie.spec
+    Inv-loop
+    μ-loop
+    cast-high
+    cast-low
+    loop-holds
+    mul-a
+    add-a
+    slice-write-ram
+    add-ram
+    slice-write-ram-2
+    add-i
+    loop-less
+    loop-again
+    same-length
+    returns)

@@ -1,0 +1,9 @@
+-- What loading a half-word promises: its value, and that it is one.
+use Prim.Native.Nat.{ℕ, _<_}
+use mathlib.Core.Path.{_≡_}
+use mathlib.Core.List.{List}
+use Rattle.rules.specs.Sizes.{half}
+
+pub record LoadsHalf (m : List ℕ) (a : ℕ) (r : ℕ) : Type 0 where
+  pub value : r ≡ half m a
+  pub small : r < 65536

@@ -1,0 +1,37 @@
+ghost use Prim.Native.Nat.{_+_, _*_, _≤_};
+ghost use mathlib.Core.Path.{_≡_};
+ghost use lib.ListN.{length};
+ghost use Rattle.rules.specs.Calls.{Clears};
+ghost use Rattle.screen.specs.Fills.{filled};
+use crate::sizes::pixel_count;
+use crate::sizes::screen_number;
+use rules::Screen;
+
+// One linear run of bytes, so that the stores become wide ones.
+fn fill(ram: &mut [u8], start: usize, count: usize, v: u16)
+    requires { ⌜ start + count * 2 ≤ length (now ram) ⌝ }
+    ensures { λ _. ⌜ now (ram .exit) ≡ filled start v count (now (ram .entry)) ⌝ }
+{
+    let high = (v / 256) as u8;
+    let low = (v % 256) as u8;
+    let mut i: usize = 0;
+    while i < count {
+        let a = start + i * 2;
+        ram[a] = high;
+        ram[a + 1] = low;
+        i += 1;
+    }
+}
+
+pub fn clear(ram: &mut [u8], s: Screen, colour: u16, depth: u16) -> u32
+    ensures { λ r. ⌜ Clears (now (ram .entry)) s colour depth r (now (ram .exit)) ⌝ }
+{
+    let number = screen_number(ram.len(), s);
+    if number != 0 {
+        return number;
+    }
+    let count = pixel_count(s.size);
+    fill(ram, s.colour as usize, count, colour);
+    fill(ram, s.depth as usize, count, depth);
+    0
+}

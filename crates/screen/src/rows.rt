@@ -1,0 +1,60 @@
+ghost use Prim.Native.Nat.{_+_};
+ghost use mathlib.Core.Path.{_≡_};
+ghost use lib.ListN.{length};
+ghost use Rattle.rules.specs.Numbers.{rowNumber};
+ghost use Rattle.screen.specs.Rows.{HandsBack, Locates};
+use crate::sizes::colour_place;
+use crate::sizes::height;
+use crate::sizes::sound;
+use crate::sizes::too_long;
+use crate::sizes::width;
+use rules::Screen;
+
+// Where a row's own bytes stand, for languages that cannot take a reference as an answer.
+#[repr(C)]
+pub struct RowPart {
+    pub number: u32,
+    pub start: u64,
+    pub length: u64,
+}
+
+pub fn row_check(ram: &[u8], s: Screen, row: u32) -> u32
+    ensures { λ r. ⌜ r ≡ rowNumber (length (now (ram .entry))) s row ⌝ }
+{
+    if too_long(ram.len()) {
+        return 3;
+    }
+    if !sound(ram.len(), s) {
+        return 5;
+    }
+    if row < height(s.size) { 0 } else { 8 }
+}
+
+// An empty part at 0 where the row is refused.
+pub fn row_part(ram: &[u8], s: Screen, row: u32) -> RowPart
+    ensures { λ r. ⌜ Locates (length (now (ram .entry))) s row r ⌝ }
+{
+    let number = row_check(ram, s, row);
+    if number != 0 {
+        return RowPart {
+            number,
+            start: 0,
+            length: 0,
+        };
+    }
+    RowPart {
+        number,
+        start: colour_place(s, 0, row) as u64,
+        length: 2 * width(s.size) as u64,
+    }
+}
+
+// The row's own bytes, a part of `ram` and not a copy.
+pub fn row<'a>(ram: &'a [u8], s: Screen, row: u32) -> &'a [u8]
+    ensures { λ r. ⌜ HandsBack (ram .entry) s row r ⌝ }
+{
+    let part = row_part(ram, s, row);
+    let start = part.start as usize;
+    let end = start + part.length as usize;
+    &ram[start..end]
+}

@@ -1,0 +1,32 @@
+// Arithmetic modulo 2^32.
+ghost use mathlib.Core.Path.{_≡_};
+ghost use Prim.Native.Nat.{_+_, _*_, _%_};
+ghost use Rattle.ints.specs.Modulo.{mod32};
+
+// z modulo 2^32.
+pub fn low32(z: i64) -> u32
+    ensures { λ r. ⌜ r ≡ mod32 z ⌝ }
+{
+    (z & 4294967295) as u32
+}
+
+// The sum modulo 2^32.
+pub fn sum32(a: u32, b: u32) -> u32
+    ensures { λ r. ⌜ r ≡ (a + b) % 4294967296 ⌝ }
+{
+    ((a as u64 + b as u64) % 4294967296) as u32
+}
+
+// The product modulo 2^32.
+pub fn product32(a: u32, b: u32) -> u32
+    ensures { λ r. ⌜ r ≡ a * b % 4294967296 ⌝ }
+{
+    ((a as u64 * b as u64) % 4294967296) as u32
+}
+
+// c + a·x + b·y modulo 2^32.
+pub fn affine32(c: u32, a: u32, b: u32, x: u32, y: u32) -> u32
+    ensures { λ r. ⌜ r ≡ (c + a * x + b * y) % 4294967296 ⌝ }
+{
+    sum32(sum32(c, product32(a, x)), product32(b, y))
+}
