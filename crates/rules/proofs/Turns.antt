@@ -1,9 +1,9 @@
 -- Laws of doing in turn and counting: one more turn, two stretches joined, turns that change nothing, turns that agree.
-use Prim.Native.Nat.{ℕ, zero, suc, _+_, _≤_, _<_}
+use Prim.Native.Nat.{ℕ, zero, suc, _+_, _*_, _≤_, _<_}
 use mathlib.Core.Path.{_≡_, refl, sym, _∙_, ap}
 use mathlib.Core.Bool.{Bool, true, false}
 use native.Mathlib.Numerals.{add-one}
-use native.Mathlib.Nat.{add-suc, add-zero, le-refl}
+use native.Mathlib.Nat.{add-suc, add-zero, le-refl, mul-suc}
 use native.Mathlib.Omega.{arith}
 use Rattle.rules.specs.Turns.{upto, bit, howMany, pixels}
 
@@ -89,3 +89,10 @@ module _ (t : ℕ → ℕ → Bool) (w : ℕ) where
         pixels-same u h (λ x y a b. k x y a (up b)),
         howMany-same (λ x. t x h) (λ x. u x h) w (λ x a. k x h a (le-refl (suc h))),
       )
+
+  pub pixels-le : (b h : ℕ) → w ≤ b → pixels t w h ≤ b * h
+  unfolding pixels
+  pixels-le b zero l = omega arith
+  pixels-le b (suc h) l =
+      let k : pixels t w h ≤ b * h = pixels-le b h l in
+      omega (arith, howMany-le (λ x. t x h) w, mul-suc b h)

@@ -1,4 +1,6 @@
+pub mod Accepted
 pub mod Bounds
 pub mod Fills
 pub mod RowBounds
+pub mod Runs
 pub mod Tests

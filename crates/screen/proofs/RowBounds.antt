@@ -1,40 +1,29 @@
 -- Where a row's own bytes stand: within the RAM, also where the row is refused and there are none.
-use Prim.Native.Nat.{ℕ, _+_, _*_, _-_, _≤_, _<_}
+use Prim.Native.Nat.{ℕ, _+_, _*_, _-_, _≤_}
 use mathlib.Core.Path.{_≡_, refl, sym, _∙_, ap}
-use mathlib.Core.Bool.{Bool, true, false, not}
+use mathlib.Core.Bool.{Bool, true, false}
 use mathlib.Core.List.{List}
 use native.Mathlib.Omega.{arith}
 use lib.ListN.{length, take, drop}
-use lib.Dec.{eqb, ltb}
-use borrow.Author.Tests.{eq-eqb, ne-eqb, eqb-true, ltb-true}
+use lib.Dec.{eqb}
+use borrow.Author.Tests.{eq-eqb, ne-eqb, eqb-true}
 use Rattle.rules.specs.declared.Screen.{Screen}
 use Rattle.rules.specs.Turns.{choose}
-use Rattle.rules.specs.Sizes.{width, height, sound, colourAt}
-use Rattle.rules.specs.Numbers.{rowNumber, tooLong}
+use Rattle.rules.specs.Sizes.{width, colourAt}
+use Rattle.rules.specs.Numbers.{rowNumber}
 use Rattle.rules.specs.Calls.{rowStart, rowLength, rowBytes}
-use Rattle.rules.proofs.Pixels.{Sound, sound-facts, row-fits}
+use Rattle.rules.proofs.Pixels.{row-fits}
 use Rattle.screen.specs.Rows.{Locates}
+use Rattle.screen.proofs.Accepted.{accepted-row}
 use Rattle.screen.proofs.Tests.{chosen, other}
 
-all-pass : (a b t : Bool) → _≡_ {A = ℕ} (choose a 3 (choose (not b) 5 (choose (not t) 8 0))) 0 → (b ≡ true) × (t ≡ true)
-all-pass true b t e = absurd (omega (arith, e))
-all-pass false false t e = absurd (omega (arith, e))
-all-pass false true false e = absurd (omega (arith, e))
-all-pass false true true e = (refl, refl)
-
 module _ (n : ℕ) (s : Screen) (row : ℕ) where
-  accepted-fits : rowNumber n s row ≡ 0 → colourAt s 0 row + 2 * width (s .size) ≤ n
-  unfolding rowNumber
-  accepted-fits e =
-      let p = all-pass (tooLong n) (sound n s) (ltb row (height (s .size))) e in
-      row-fits (sound-facts (p .0)) (ltb-true row (height (s .size)) (p .1))
-
   pub part-fits : rowStart n s row + rowLength n s row ≤ n
   unfolding rowStart rowLength
   part-fits = go (eqb (rowNumber n s row) 0) refl
     where
       go : (t : Bool) → eqb (rowNumber n s row) 0 ≡ t → choose t (colourAt s 0 row) 0 + choose t (2 * width (s .size)) 0 ≤ n
-      go true e = accepted-fits (eqb-true (rowNumber n s row) 0 e)
+      go true e = let p = accepted-row n s row (eqb-true (rowNumber n s row) 0 e) in row-fits (p .0) (p .1)
       go false e = omega arith
 
   pub refused : (k : ℕ) → k ≡ rowNumber n s row → ¬ (k ≡ 0) → Locates n s row (record { number = k; start = 0; length = 0 })

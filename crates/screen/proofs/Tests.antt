@@ -1,5 +1,5 @@
 -- What a chain of tests answers, from the tests that were made on the way.
-use mathlib.Core.Path.{_≡_, refl, sym, _∙_, ap}
+use mathlib.Core.Path.{_≡_, refl}
 use mathlib.Core.Bool.{Bool, true, false, _&&_, _||_}
 use Rattle.rules.specs.Turns.{choose}
 

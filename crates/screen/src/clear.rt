@@ -14,12 +14,12 @@ fn fill(ram: &mut [u8], start: usize, count: usize, v: u16)
 {
     let high = (v / 256) as u8;
     let low = (v % 256) as u8;
-    let mut i: usize = 0;
-    while i < count {
-        let a = start + i * 2;
+    let end = start + count * 2;
+    let mut a = start;
+    while a + 1 < end {
         ram[a] = high;
         ram[a + 1] = low;
-        i += 1;
+        a += 2;
     }
 }
 

@@ -1,7 +1,7 @@
 ghost use Prim.Native.Nat.{_+_, _<_};
 ghost use mathlib.Core.Path.{_≡_};
 ghost use lib.ListN.{length};
-ghost use Rattle.rules.specs.Sizes.{half, putHalf};
+ghost use Rattle.rules.specs.Sizes.{putHalf};
 ghost use Rattle.screen.specs.Halves.{LoadsHalf};
 
 // The half-word at `a`, big-endian.

@@ -18,16 +18,20 @@ pub struct RowPart {
     pub length: u64,
 }
 
+// The tests first, then the numbers in their order: the lowest that applies wins.
 pub fn row_check(ram: &[u8], s: Screen, row: u32) -> u32
     ensures { λ r. ⌜ r ≡ rowNumber (length (now (ram .entry))) s row ⌝ }
 {
-    if too_long(ram.len()) {
+    let long = too_long(ram.len());
+    let whole = sound(ram.len(), s);
+    let inside = row < height(s.size);
+    if long {
         return 3;
     }
-    if !sound(ram.len(), s) {
+    if !whole {
         return 5;
     }
-    if row < height(s.size) { 0 } else { 8 }
+    if inside { 0 } else { 8 }
 }
 
 // An empty part at 0 where the row is refused.

@@ -1,7 +1,6 @@
 ghost use Prim.Native.Nat.{_*_, _^_, _<_};
 ghost use mathlib.Core.Bool.{_&&_};
 ghost use mathlib.Core.Path.{_≡_};
-ghost use lib.Dec.{leb};
 ghost use Rattle.rules.specs.Numbers.{clearNumber, tooLong};
 ghost use Rattle.rules.specs.Sizes.{area, colourAt, depthAt, height, sizeInRange, sound, width};
 ghost use Rattle.screen.specs.Places.{areasApart, areasFit, between, evenStarts, placeAt};

@@ -10,6 +10,13 @@ pub fn low32(z: i64) -> u32
     (z & 4294967295) as u32
 }
 
+// A signed number modulo 2^32: its bits.
+pub fn bits32(v: i32) -> u32
+    ensures { λ r. ⌜ r ≡ mod32 v ⌝ }
+{
+    low32(v as i64)
+}
+
 // The sum modulo 2^32.
 pub fn sum32(a: u32, b: u32) -> u32
     ensures { λ r. ⌜ r ≡ (a + b) % 4294967296 ⌝ }

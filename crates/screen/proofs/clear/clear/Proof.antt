@@ -1,15 +1,16 @@
 -- `clear::clear`: a refusal leaves the memory as it was, and else the two fills are the clear. Assumes nothing.
 use mathlib.Core.Path.{sym, _∙_}
-use lib.ListN.{length}
 use native.Mathlib.Omega.{arith}
-use Rattle.rules.proofs.Pixels.{Sound}
-use Rattle.screen.proofs.Fills.{accepted-sound, refused, done}
+use lib.ListN.{length}
 use borrow.Author.Needs.{needs}
+use Rattle.rules.proofs.Pixels.{Sound}
+use Rattle.screen.proofs.Accepted.{accepted-clear}
+use Rattle.screen.proofs.Fills.{refused, done}
 use Rattle.screen.proofs.clear.clear.Statement.{statement}
 use Rattle.screen.proofs.clear.clear.Tie as tie
 
 sound-here : (c : tie.Else1) → Sound (length (c .before .before .before .args .ram .now)) (c .before .before .before .args .s)
-sound-here c = accepted-sound _ _ (sym (c .before .screen-number .ensures) ∙ c .if1 .left)
+sound-here c = accepted-clear _ _ (sym (c .before .screen-number .ensures) ∙ c .if1 .left)
 
 screen-number-requires : tie.Need-screen-number-requires
 screen-number-requires c κs = search needs

@@ -1,26 +1,28 @@
--- `clear::fill` leaves `filled`. The loop's invariant: the first i half-words are stored. The measure is what is left of the count.
--- Assumes nothing.
-use Prim.Native.Nat.{_+_, _*_, _-_, _≤_, _<_, zero-le}
-use mathlib.Core.Path.{_≡_, refl, sym, _∙_, ap}
-use borrow.Author.Needs.{needs}
-use lib.ListN.{length, length-set}
+-- `clear::fill` leaves `filled`. The loop's invariant: `a` is a number of half-words past the start, and those are stored. The
+-- measure is what is left before the end. Assumes nothing.
+use Prim.Native.Nat.{_-_, _/_, _%_, _≤_}
+use mathlib.Core.Path.{_≡_, _∙_, ap}
 use native.Mathlib.Omega.{arith}
+use lib.ListN.{length, length-set}
+use borrow.Author.Needs.{needs}
 use Rattle.rules.specs.Sizes.{putHalf}
 use Rattle.screen.specs.Fills.{filled}
-use Rattle.screen.proofs.Fills.{filled-none, filled-more, length-filled}
+use Rattle.screen.proofs.Fills.{filledTo, filled-none, filled-more, length-filled}
 use Rattle.screen.proofs.clear.fill.Statement.{statement}
 use Rattle.screen.proofs.clear.fill.Tie as tie
 
 abbrev Inv-loop : tie.InvT-loop
-Inv-loop ram₀ start count v high low i₀ ram i = (i ≤ count) × (ram ≡ filled start v i ram₀)
+Inv-loop ram₀ start count v high low end a₀ ram a =
+    (start ≤ a) × (a ≤ end) × ((a - start) % 2 ≡ 0) × (ram ≡ filledTo start v a ram₀)
 
 abbrev μ-loop : tie.MeasureT-loop
-μ-loop ram₀ start count v high low i₀ ram i = count - i
+μ-loop ram₀ start count v high low end a₀ ram a = end - a
 
 kept : (c : tie.At-loop Inv-loop μ-loop) → length (c .loop .ram) ≡ length (c .before .args .ram .now)
-kept c = ap length (c .loop .inv .1) ∙ length-filled _ _ _ _
+kept c = ap length (c .loop .inv .3) ∙ length-filled _ _ _ _
 
-whole : (c : tie.After-loop Inv-loop μ-loop) → c .before .loop .i ≡ c .before .before .args .count
+whole : (c : tie.After-loop Inv-loop μ-loop)
+    → (c .before .loop .a - c .before .before .args .start) / 2 ≡ c .before .before .args .count
 whole c = omega arith
 
 cast-high : tie.Need-cast-high Inv-loop μ-loop
@@ -29,14 +31,17 @@ cast-high c = search needs
 cast-low : tie.Need-cast-low Inv-loop μ-loop
 cast-low c = search needs
 
+mul-end : tie.Need-mul-end Inv-loop μ-loop
+mul-end c = search needs
+
+add-end : tie.Need-add-end Inv-loop μ-loop
+add-end c = search needs
+
 loop-holds : tie.Need-loop-holds Inv-loop μ-loop
-loop-holds c = (zero-le, sym (filled-none _ _ _))
+loop-holds c = (omega arith, omega arith, omega arith, filled-none _ _ _)
 
-mul-a : tie.Need-mul-a Inv-loop μ-loop
-mul-a c = omega arith
-
-add-a : tie.Need-add-a Inv-loop μ-loop
-add-a c = omega arith
+add-loop : tie.Need-add-loop Inv-loop μ-loop
+add-loop c = omega arith
 
 slice-write-ram : tie.Need-slice-write-ram Inv-loop μ-loop
 slice-write-ram c = omega (arith, kept (c .before))
@@ -47,22 +52,28 @@ add-ram c = omega arith
 slice-write-ram-2 : tie.Need-slice-write-ram-2 Inv-loop μ-loop
 slice-write-ram-2 c = simp length-set (omega (arith, kept (c .before)))
 
-add-i : tie.Need-add-i Inv-loop μ-loop
-add-i c = omega arith
+add-a : tie.Need-add-a Inv-loop μ-loop
+add-a c = omega arith
 
 loop-less : tie.Need-loop-less Inv-loop μ-loop
 loop-less c = omega arith
 
 loop-again : tie.Need-loop-again Inv-loop μ-loop
 unfolding putHalf
-loop-again c = (omega arith, ap (λ m. putHalf m (c .before .before .args .start + c .before .loop .i * 2) (c .before .before .args .v)) (c .before .loop .inv .1) ∙ sym (filled-more _ _ _ _))
+loop-again c = (
+  omega arith,
+  omega arith,
+  omega arith,
+  ap (λ m. putHalf m (c .before .loop .a) (c .before .before .args .v)) (c .before .loop .inv .3)
+      ∙ filled-more _ _ _ _ (c .before .loop .inv .0) (c .before .loop .inv .2),
+)
 
 same-length : tie.Need-same-length Inv-loop μ-loop
 same-length c = kept (c .before)
 
 returns : tie.Need-returns Inv-loop μ-loop
 returns c =
-    c .before .loop .inv .1
+    c .before .loop .inv .3
     ∙ ap
     (λ i. filled (c .before .before .args .start) (c .before .before .args .v) i (c .before .before .args .ram .now))
     (whole c)
@@ -75,13 +86,14 @@ fill-spec =
     μ-loop
     cast-high
     cast-low
+    mul-end
+    add-end
     loop-holds
-    mul-a
-    add-a
+    add-loop
     slice-write-ram
     add-ram
     slice-write-ram-2
-    add-i
+    add-a
     loop-less
     loop-again
     same-length

@@ -1,10 +1,9 @@
 -- `halves::load_half` gives the half-word at `a`: both bytes are below 256, so nothing wraps and the value is below 65,536.
 -- Assumes nothing.
-use Prim.Native.Nat.{_+_, _*_, _<_}
-use borrow.Author.Needs.{needs}
+use Prim.Native.Nat.{_+_}
 use mathlib.Core.Path.{refl}
 use native.Mathlib.Omega.{arith}
-use lib.ListN.{getD}
+use borrow.Author.Needs.{needs}
 use Rattle.rules.specs.Sizes.{half}
 use Rattle.screen.proofs.halves.load_half.Statement.{statement}
 use Rattle.screen.proofs.halves.load_half.Tie as tie

@@ -1,6 +1,6 @@
 -- `halves::store_half` leaves `putHalf`: its two stores are that definition's two. Assumes nothing.
-use borrow.Author.Needs.{needs}
 use mathlib.Core.Path.{refl}
+use borrow.Author.Needs.{needs}
 use Rattle.rules.specs.Sizes.{putHalf}
 use Rattle.screen.proofs.halves.store_half.Statement.{statement}
 use Rattle.screen.proofs.halves.store_half.Tie as tie

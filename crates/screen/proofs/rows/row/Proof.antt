@@ -1,15 +1,16 @@
--- `rows::row`: the part that `row_part` locates lies within the RAM, and it is a part of it and no copy: its pointer is the slice's,
--- further on by the row's start. Assumes nothing.
+-- `rows::row`: the part that `row_part` locates lies within the RAM. It is a part and no copy: its pointer is the slice's, further on
+-- by the row's start. Assumes nothing.
 use Prim.Native.Nat.{_+_, _≤_}
 use mathlib.Core.Path.{refl}
-use lib.ListN.{length}
 use native.Mathlib.Omega.{arith}
-use Rattle.screen.proofs.RowBounds.{part-fits, own-bytes}
+use lib.ListN.{length}
 use borrow.Author.Needs.{needs}
+use Rattle.screen.proofs.RowBounds.{part-fits, own-bytes}
 use Rattle.screen.proofs.rows.row.Statement.{statement}
 use Rattle.screen.proofs.rows.row.Tie as tie
 
-fits : (c : tie.After-row-part) → c .row-part .result .start + c .row-part .result .length ≤ length (c .before .before .args .ram .now)
+fits : (c : tie.After-row-part)
+    → c .row-part .result .start + c .row-part .result .length ≤ length (c .before .before .args .ram .now)
 fits c = rw (c .row-part .ensures .starts, c .row-part .ensures .spans) (part-fits _ _ _)
 
 row-part-requires : tie.Need-row-part-requires
@@ -28,7 +29,11 @@ part-result-end : tie.Need-part-result-end
 part-result-end c = fits c
 
 returns : tie.Need-returns
-returns c = record { bytes = own-bytes _ _ _ _ _ (c .before .row-part .ensures .starts) (c .before .row-part .ensures .spans); block = refl; place = omega (arith, c .before .row-part .ensures .starts) }
+returns c = record {
+  bytes = own-bytes _ _ _ _ _ (c .before .row-part .ensures .starts) (c .before .row-part .ensures .spans);
+  block = refl;
+  place = omega (arith, c .before .row-part .ensures .starts);
+}
 
 pub row-spec : {M : Type 1} → statement M
 row-spec =

@@ -1,6 +1,6 @@
 -- `rows::row_part`: where the number is not 0 both numbers are 0, and else they are the row's. Assumes nothing.
-use Rattle.screen.proofs.RowBounds.{refused, found}
 use borrow.Author.Needs.{needs}
+use Rattle.screen.proofs.RowBounds.{refused, found}
 use Rattle.screen.proofs.rows.row_part.Statement.{statement}
 use Rattle.screen.proofs.rows.row_part.Tie as tie
 
@@ -23,7 +23,12 @@ mul-t10 : tie.Need-mul-t10
 mul-t10 c = search needs
 
 returns-2 : tie.Need-returns-2
-returns-2 c = found _ _ _ _ _ _ (c .before .before .before .row-check .ensures) (c .before .before .if1 .left) (c .before .colour-place .ensures) (c .width .ensures)
+returns-2 c =
+    found _ _ _ _ _ _
+    (c .before .before .before .row-check .ensures)
+    (c .before .before .if1 .left)
+    (c .before .colour-place .ensures)
+    (c .width .ensures)
 
 pub row-part-spec : {M : Type 1} → statement M
 row-part-spec =

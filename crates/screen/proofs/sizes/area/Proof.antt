@@ -1,7 +1,7 @@
 -- `sizes::area` is the definition's product, which at any size number is below 2^37. Assumes nothing.
 use native.Mathlib.Omega.{arith}
-use Rattle.screen.proofs.Bounds.{area-small}
 use borrow.Author.Needs.{needs}
+use Rattle.screen.proofs.Bounds.{area-small}
 use Rattle.screen.proofs.sizes.area.Statement.{statement}
 use Rattle.screen.proofs.sizes.area.Tie as tie
 

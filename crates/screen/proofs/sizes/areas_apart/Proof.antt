@@ -1,7 +1,7 @@
 -- `sizes::areas_apart` tests the two orders in turn; a start of 32 bits and an area below 2^37 add up in 64. Assumes nothing.
 use borrow.Author.Tests.{le-leb, lt-leb}
-use Rattle.screen.proofs.Tests.{or-true, or-false}
 use borrow.Author.Needs.{needs}
+use Rattle.screen.proofs.Tests.{or-true, or-false}
 use Rattle.screen.proofs.sizes.areas_apart.Statement.{statement}
 use Rattle.screen.proofs.sizes.areas_apart.Tie as tie
 

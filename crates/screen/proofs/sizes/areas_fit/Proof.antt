@@ -1,7 +1,7 @@
 -- `sizes::areas_fit` tests the two ends in turn; a start of 32 bits and an area below 2^37 add up in 64. Assumes nothing.
 use borrow.Author.Tests.{le-leb, lt-leb}
-use Rattle.screen.proofs.Tests.{and-true, and-false}
 use borrow.Author.Needs.{needs}
+use Rattle.screen.proofs.Tests.{and-true, and-false}
 use Rattle.screen.proofs.sizes.areas_fit.Statement.{statement}
 use Rattle.screen.proofs.sizes.areas_fit.Tie as tie
 

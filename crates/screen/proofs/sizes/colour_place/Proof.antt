@@ -1,6 +1,6 @@
 -- `sizes::colour_place` is `place` from the colour start. Assumes nothing.
-use Rattle.rules.specs.Sizes.{colourAt}
 use borrow.Author.Needs.{needs}
+use Rattle.rules.specs.Sizes.{colourAt}
 use Rattle.screen.proofs.sizes.colour_place.Statement.{statement}
 use Rattle.screen.proofs.sizes.colour_place.Tie as tie
 

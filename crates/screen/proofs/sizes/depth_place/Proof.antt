@@ -1,6 +1,6 @@
 -- `sizes::depth_place` is `place` from the depth start. Assumes nothing.
-use Rattle.rules.specs.Sizes.{depthAt}
 use borrow.Author.Needs.{needs}
+use Rattle.rules.specs.Sizes.{depthAt}
 use Rattle.screen.proofs.sizes.depth_place.Statement.{statement}
 use Rattle.screen.proofs.sizes.depth_place.Tie as tie
 

@@ -1,7 +1,7 @@
 -- `sizes::pixel_count` is the product, which at any size number is below 2^36. Assumes nothing.
 use native.Mathlib.Omega.{arith}
-use Rattle.screen.proofs.Bounds.{area-small}
 use borrow.Author.Needs.{needs}
+use Rattle.screen.proofs.Bounds.{area-small}
 use Rattle.screen.proofs.sizes.pixel_count.Statement.{statement}
 use Rattle.screen.proofs.sizes.pixel_count.Tie as tie
 
@@ -18,7 +18,9 @@ cast-result-2 : tie.Need-cast-result-2
 cast-result-2 c = search needs
 
 mul-result : tie.Need-mul-result
-mul-result c = simp (c .before .width .ensures, c .height .ensures) (omega (arith, area-small (c .before .before .args .size) (omega arith)))
+mul-result c =
+    simp (c .before .width .ensures, c .height .ensures)
+    (omega (arith, area-small (c .before .before .args .size) (omega arith)))
 
 returns : tie.Need-returns
 returns c = simp (c .before .width .ensures, c .height .ensures)

@@ -1,8 +1,8 @@
 -- `sizes::place` is the definition's sum; its offset is below 2^60 at any size number and pixel. Assumes nothing.
 use Prim.Native.Nat.{_+_, _*_, _^_, _<_}
 use native.Mathlib.Omega.{arith}
-use Rattle.screen.proofs.Bounds.{offset-small}
 use borrow.Author.Needs.{needs}
+use Rattle.screen.proofs.Bounds.{offset-small}
 use Rattle.screen.proofs.sizes.place.Statement.{statement}
 use Rattle.screen.proofs.sizes.place.Tie as tie
 

@@ -1,10 +1,9 @@
 -- `sizes::screen_number`: the definition's two tests, in its order. Assumes nothing.
 use mathlib.Core.Bool.{not}
 use mathlib.Core.Path.{sym, _∙_, ap}
+use borrow.Author.Needs.{needs}
 use Rattle.rules.specs.Numbers.{clearNumber}
 use Rattle.screen.proofs.Tests.{chosen, other}
-use mathlib.Core.Path.{sym, _∙_}
-use borrow.Author.Needs.{needs}
 use Rattle.screen.proofs.sizes.screen_number.Statement.{statement}
 use Rattle.screen.proofs.sizes.screen_number.Tie as tie
 
@@ -20,11 +19,15 @@ returns c = chosen _ _ _ (sym (c .before .too-long .ensures) ∙ c .if1 .taken)
 
 returns-2 : tie.Need-returns-2
 unfolding clearNumber
-returns-2 c = other _ 5 0 (ap not (sym (c .before .sound .ensures) ∙ c .if2 .taken)) ∙ other _ 3 _ (sym (c .before .before .before .too-long .ensures) ∙ c .before .before .if1 .left)
+returns-2 c =
+    other _ 5 0 (ap not (sym (c .before .sound .ensures) ∙ c .if2 .taken))
+    ∙ other _ 3 _ (sym (c .before .before .before .too-long .ensures) ∙ c .before .before .if1 .left)
 
 returns-3 : tie.Need-returns-3
 unfolding clearNumber
-returns-3 c = chosen _ 5 0 (ap not (sym (c .before .sound .ensures) ∙ c .if2 .left)) ∙ other _ 3 _ (sym (c .before .before .before .too-long .ensures) ∙ c .before .before .if1 .left)
+returns-3 c =
+    chosen _ 5 0 (ap not (sym (c .before .sound .ensures) ∙ c .if2 .left))
+    ∙ other _ 3 _ (sym (c .before .before .before .too-long .ensures) ∙ c .before .before .if1 .left)
 
 pub screen-number-spec : {M : Type 1} → statement M
 screen-number-spec =

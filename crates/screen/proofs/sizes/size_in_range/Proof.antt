@@ -1,14 +1,12 @@
 -- `sizes::size_in_range`: the definition's four tests, taken two and two. Assumes nothing.
 use Prim.Native.Nat.{ℕ}
 use mathlib.Core.Path.{_≡_, sym, _∙_}
-use mathlib.Core.Bool.{Bool, _&&_}
+use mathlib.Core.Bool.{_&&_}
 use lib.Dec.{leb}
+use borrow.Author.Needs.{needs}
 use Rattle.rules.specs.Sizes.{groups, height, sizeInRange}
 use Rattle.screen.specs.Places.{between}
 use Rattle.screen.proofs.Tests.{and-true, and-false, and-assoc}
-use mathlib.Core.Path.{sym, _∙_}
-use Rattle.screen.proofs.Bounds.{area-small}
-use borrow.Author.Needs.{needs}
 use Rattle.screen.proofs.sizes.size_in_range.Statement.{statement}
 use Rattle.screen.proofs.sizes.size_in_range.Tie as tie
 
@@ -22,10 +20,16 @@ between-requires-2 : tie.Need-between-requires-2
 between-requires-2 c κs = search needs
 
 returns : tie.Need-returns
-returns c = c .between2 .ensures ∙ and-true _ _ (sym (c .before .before .between .ensures) ∙ c .before .if1 .taken) ∙ two-and-two (c .before .before .before .args .size)
+returns c =
+    c .between2 .ensures
+    ∙ and-true _ _ (sym (c .before .before .between .ensures) ∙ c .before .if1 .taken)
+    ∙ two-and-two (c .before .before .before .args .size)
 
 returns-2 : tie.Need-returns-2
-returns-2 c = c .before .between .ensures ∙ and-false _ _ (sym (c .before .between .ensures) ∙ c .if1 .left) ∙ two-and-two (c .before .before .args .size)
+returns-2 c =
+    c .before .between .ensures
+    ∙ and-false _ _ (sym (c .before .between .ensures) ∙ c .if1 .left)
+    ∙ two-and-two (c .before .before .args .size)
 
 pub size-in-range-spec : {M : Type 1} → statement M
 size-in-range-spec = tie.close (tie.spec between-requires between-requires-2 returns returns-2)

@@ -1,15 +1,13 @@
 -- `sizes::sound`: the definition's four parts, tested in its order. Assumes nothing.
 use mathlib.Core.Path.{_≡_, sym, _∙_, ap}
-use mathlib.Core.Bool.{Bool, true, _&&_}
-use borrow.Author.Tests.{not-true, not-false}
+use mathlib.Core.Bool.{true}
 use native.Mathlib.Omega.{arith}
+use borrow.Author.Tests.{not-true, not-false}
+use borrow.Author.Needs.{needs}
 use Rattle.rules.specs.Sizes.{area, sizeInRange, sound}
 use Rattle.screen.specs.Places.{areasFit, areasApart, evenStarts}
 use Rattle.screen.proofs.Bounds.{area-small}
 use Rattle.screen.proofs.Tests.{and-true, and-false, first-fails, second-fails, two-pass}
-use mathlib.Core.Path.{_≡_, sym, _∙_}
-use Rattle.rules.specs.Sizes.{sound}
-use borrow.Author.Needs.{needs}
 use Rattle.screen.proofs.sizes.sound.Statement.{statement}
 use Rattle.screen.proofs.sizes.sound.Tie as tie
 
@@ -19,8 +17,21 @@ in-range c = sym (c .before .size-in-range .ensures) ∙ not-false _ (c .if1 .le
 starts-even : (c : tie.Else2) → evenStarts (c .before .before .before .before .args .s) ≡ true
 starts-even c = sym (c .before .even-starts .ensures) ∙ not-false _ (c .if2 .left)
 
-fit : (c : tie.After-areas-fit) → c .areas-fit .result ≡ areasFit (c .before .before .before .before .before .before .args .len) (c .before .before .before .before .before .before .args .s) (area (c .before .before .before .before .before .before .args .s .size))
-fit c = c .areas-fit .ensures ∙ ap (areasFit _ (c .before .before .before .before .before .before .args .s)) (c .before .area .ensures)
+fit : (c : tie.After-areas-fit) →
+    let a = c .before .before .before .before .before .before .args in
+    c .areas-fit .result ≡ areasFit (a .len) (a .s) (area (a .s .size))
+fit c =
+    c .areas-fit .ensures
+    ∙ ap (areasFit _ (c .before .before .before .before .before .before .args .s)) (c .before .area .ensures)
+
+apart : (c : tie.After-areas-apart) →
+    let s = c .before .before .before .before .before .before .before .before .args .s in
+    c .areas-apart .result ≡ areasApart s (area (s .size))
+apart c =
+    c .areas-apart .ensures
+    ∙ ap
+    (areasApart (c .before .before .before .before .before .before .before .before .args .s))
+    (c .before .before .before .area .ensures)
 
 size-in-range-requires : tie.Need-size-in-range-requires
 size-in-range-requires c κs = search needs
@@ -34,24 +45,37 @@ even-starts-requires c κs = search needs
 
 returns-2 : tie.Need-returns-2
 unfolding sound
-returns-2 c = second-fails _ _ _ _ (in-range (c .before .before)) (sym (c .before .even-starts .ensures) ∙ not-true _ (c .if2 .taken))
+returns-2 c =
+    second-fails _ _ _ _
+    (in-range (c .before .before))
+    (sym (c .before .even-starts .ensures) ∙ not-true _ (c .if2 .taken))
 
 area-requires : tie.Need-area-requires
 area-requires c κs = search needs
 
 areas-fit-requires : tie.Need-areas-fit-requires
-areas-fit-requires c κs = omega (arith, area-small (c .before .before .before .before .before .args .s .size) (omega arith))
+areas-fit-requires c κs =
+    omega (arith, area-small (c .before .before .before .before .before .args .s .size) (omega arith))
 
 areas-apart-requires : tie.Need-areas-apart-requires
-areas-apart-requires c κs = omega (arith, area-small (c .before .before .before .before .before .before .before .args .s .size) (omega arith))
+areas-apart-requires c κs =
+    omega (arith, area-small (c .before .before .before .before .before .before .before .args .s .size) (omega arith))
 
 returns-3 : tie.Need-returns-3
 unfolding sound
-returns-3 c = c .areas-apart .ensures ∙ ap (areasApart (c .before .before .before .before .before .before .before .before .args .s)) (c .before .before .before .area .ensures) ∙ and-true _ _ (sym (fit (c .before .before)) ∙ c .before .if3 .taken) ∙ two-pass _ _ _ _ (in-range (c .before .before .before .before .before .before)) (starts-even (c .before .before .before .before))
+returns-3 c =
+    apart c
+    ∙ and-true _ _ (sym (fit (c .before .before)) ∙ c .before .if3 .taken)
+    ∙ two-pass _ _ _ _
+    (in-range (c .before .before .before .before .before .before))
+    (starts-even (c .before .before .before .before))
 
 returns-4 : tie.Need-returns-4
 unfolding sound
-returns-4 c = fit (c .before) ∙ and-false _ _ (sym (fit (c .before)) ∙ c .if3 .left) ∙ two-pass _ _ _ _ (in-range (c .before .before .before .before .before)) (starts-even (c .before .before .before))
+returns-4 c =
+    fit (c .before)
+    ∙ and-false _ _ (sym (fit (c .before)) ∙ c .if3 .left)
+    ∙ two-pass _ _ _ _ (in-range (c .before .before .before .before .before)) (starts-even (c .before .before .before))
 
 pub sound-spec : {M : Type 1} → statement M
 sound-spec =

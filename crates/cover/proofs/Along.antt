@@ -1,0 +1,254 @@
+-- Laws of one edge along the pixels: its lowered value is an affine function of the pixel, stays within 32 bits, is not negative exactly inside,
+-- and rises or falls along a row; so the ends of a stretch speak for all of it. Everything is said once over the edge.
+use Prim.Native.Nat.{ℕ, zero, suc, _+_, _*_, _-_, _%_, _≤_, _<_}
+use mathlib.Core.Path.{_≡_, refl, sym, _∙_, ap}
+use mathlib.Core.List.{List, [], _∷_}
+use mathlib.Core.Bool.{Bool, true, false, _&&_, _||_}
+use native.Mathlib.Nat.{mul-add, add-zero}
+use native.Mathlib.Omega.{arith}
+use lib.IntN.{ℤ, pos, negsuc, _+ℤ_, _-ℤ_, _*ℤ_}
+use lib.Signed.{mag, nonNeg, leZ, _≤ℤ_, _<ℤ_}
+use mir.Syntax.{w32}
+use mir.Val.{toZ, ofZ}
+use mir.ValLaws.{toZ-ofZ}
+use borrow.Author.Tests.{lt-ltb, le-ltb}
+use Rattle.ints.specs.Modulo.{mod32}
+use Rattle.ints.proofs.Modulo.{mod32-sign, mod32-affine}
+use Rattle.ints.proofs.Poly.{Exp, var, con, _⊕_, _⊖_, _⊗_, solve}
+use Rattle.ints.proofs.Order.{leZ-true, nonNeg-true, nonNeg-false, le-nonNeg, lt-nonNeg, ≤ℤ-trans, ≤ℤ-<ℤ-trans, le-of, le-to, lt-to, mul-nonneg, pos-le}
+use Rattle.ints.proofs.Bounds.{Within, within-pos, within-range, within-lit, within-sub, within-mul, within-31, fits-32}
+use Rattle.rules.specs.Turns.{choose}
+use Rattle.rules.specs.Triangles.{Edge, dx, edge1, edge2, edge3, edgeValue, sample, keepsZero, inside, positive, isZero}
+use Rattle.rules.specs.Numbers.{vertexInRange, verticesInRange}
+use Rattle.rules.specs.declared.Triangle.{Triangle}
+use Rattle.cover.specs.Side.{sided, slope, sideAt, sideFrom, SideOf, edgeFrom, edgeInRange}
+use Rattle.cover.specs.Mask.{keeps}
+use Rattle.cover.specs.declared.Side.{Side}
+
+-- ---- inside is "not negative"
+
+lowered : (z : ℤ) (b : Bool) → (positive z || isZero z && b) ≡ nonNeg (z -ℤ choose b (pos 0) (pos 1))
+lowered (pos zero) true = refl
+lowered (pos zero) false = refl
+lowered (pos (suc n)) true = refl
+lowered (pos (suc n)) false = rw (le-ltb (suc n) 1 (omega arith))
+lowered (negsuc n) true = rw (lt-ltb 0 (suc n) (omega arith))
+lowered (negsuc n) false = refl
+
+pub inside-sided : (e : Edge) (x y : ℕ) → inside e (sample x y) ≡ nonNeg (sided e x y)
+unfolding inside sided
+inside-sided e x y = lowered (edgeValue e (sample x y)) (keepsZero e)
+
+-- ---- an affine function of the pixel
+
+abbrev edgeE : Exp → Exp → Exp
+edgeE px py = (py ⊖ var 1) ⊗ (var 2 ⊖ var 0) ⊖ (px ⊖ var 0) ⊗ (var 3 ⊖ var 1)
+
+abbrev sampleE : Exp → Exp
+sampleE x = con (pos 8) ⊗ x
+
+abbrev slopeE : Exp
+slopeE = con (pos 0) ⊖ con (pos 8) ⊗ (var 3 ⊖ var 1)
+
+pub sided-affine : (e : Edge) (x y : ℕ) → sided e x y ≡ sided e 0 0 +ℤ slope e *ℤ pos x +ℤ (pos 8 *ℤ dx e) *ℤ pos y
+unfolding sided sample edgeValue
+sided-affine e x y =
+    solve (e .x1 ∷ e .y1 ∷ e .x2 ∷ e .y2 ∷ pos x ∷ pos y ∷ choose (keepsZero e) (pos 0) (pos 1) ∷ [])
+    (edgeE (sampleE (var 4)) (sampleE (var 5)) ⊖ var 6)
+    (edgeE (sampleE (con (pos 0))) (sampleE (con (pos 0))) ⊖ var 6 ⊕ slopeE ⊗ var 4 ⊕ con (pos 8) ⊗ (var 2 ⊖ var 0) ⊗ var 5) tt
+
+pub sided-right : (e : Edge) (x k y : ℕ) → sided e (x + k) y ≡ sided e x y +ℤ slope e *ℤ pos k
+unfolding sided sample edgeValue
+sided-right e x k y =
+    solve (e .x1 ∷ e .y1 ∷ e .x2 ∷ e .y2 ∷ pos x ∷ pos y ∷ choose (keepsZero e) (pos 0) (pos 1) ∷ pos k ∷ [])
+    (edgeE (sampleE (var 4 ⊕ var 7)) (sampleE (var 5)) ⊖ var 6)
+    (edgeE (sampleE (var 4)) (sampleE (var 5)) ⊖ var 6 ⊕ slopeE ⊗ var 7) tt
+
+-- ---- within 32 bits
+
+pub record EdgeWithin (e : Edge) : Type 0 where
+  pub in-x1 : Within 8192 (e .x1)
+  pub in-y1 : Within 8192 (e .y1)
+  pub in-x2 : Within 8192 (e .x2)
+  pub in-y2 : Within 8192 (e .y2)
+
+pub and-true : {a b : Bool} → a && b ≡ true → (a ≡ true) × (b ≡ true)
+and-true {a = true} {b} h = (refl, h)
+and-true {a = false} {b} h = (h, absurd (let z : _≡_ {A = ℕ} 0 1 = cc in omega arith))
+
+pub vertex-within : (v : ℤ) → vertexInRange v ≡ true → Within 8192 v
+vertex-within v h =
+    let b = and-true {a = leZ (negsuc 8191) v} h in
+    within-range (within-lit tt) (within-lit tt) (leZ-true (negsuc 8191) v (b .0)) (leZ-true v (pos 8191) (b .1))
+
+pub edge-within : (e : Edge) → edgeInRange e ≡ true → EdgeWithin e
+edge-within e h =
+    let d = and-true {b = vertexInRange (e .y2)} h in
+    let c = and-true {b = vertexInRange (e .x2)} (d .0) in
+    let b = and-true {b = vertexInRange (e .y1)} (c .0) in
+    record {
+      in-x1 = vertex-within (e .x1) (b .0);
+      in-y1 = vertex-within (e .y1) (b .1);
+      in-x2 = vertex-within (e .x2) (c .1);
+      in-y2 = vertex-within (e .y2) (d .1);
+    }
+
+pub loss-within : (b : Bool) → Within 1 (choose b (pos 0) (pos 1))
+loss-within true = within-lit tt
+loss-within false = within-lit tt
+
+module _ (e : Edge) (w : EdgeWithin e) where
+  pub value-within : (x y : ℕ) → x ≤ 640 → y ≤ 512 → Within 419430400 (edgeValue e (sample x y))
+  unfolding edgeValue sample
+  value-within x y hx hy =
+      within-sub
+      (within-mul (within-sub (within-pos {n = 4096} (omega arith)) (w .in-y1)) (within-sub (w .in-x2) (w .in-x1)))
+      (within-mul (within-sub (within-pos {n = 5120} (omega arith)) (w .in-x1)) (within-sub (w .in-y2) (w .in-y1)))
+
+  pub sided-small : (x y : ℕ) → x ≤ 640 → y ≤ 512 → mag (sided e x y) < 2147483648
+  unfolding sided
+  sided-small x y hx hy =
+      within-31 (within-sub (value-within x y hx hy) (loss-within (keepsZero e))) (omega arith)
+
+  pub slope-small : mag (slope e) < 2147483648
+  slope-small =
+      within-31 (within-sub (within-lit {n = 0} {z = pos 0} tt) (within-mul (within-lit {n = 8} {z = pos 8} tt) (within-sub (w .in-y2) (w .in-y1)))) (omega arith)
+
+-- ---- rising and falling
+
+module _ (e : Edge) (x k y : ℕ) where
+  pub rises : nonNeg (slope e) ≡ true → sided e x y ≤ℤ sided e (x + k) y
+  rises h =
+      let ρ : List ℤ = sided e x y ∷ slope e ∷ pos k ∷ [] in
+      rw (sided-right e x k y)
+      (le-of ρ (var 0) (var 0 ⊕ var 1 ⊗ var 2)
+      (omega (arith, le-to ρ (con (pos 0)) (var 1 ⊗ var 2) (mul-nonneg (nonNeg-true (slope e) h) (pos-le (omega arith))))))
+
+  pub falls : nonNeg (slope e) ≡ false → sided e (x + k) y ≤ℤ sided e x y
+  falls h =
+      let ρ : List ℤ = sided e x y ∷ slope e ∷ pos k ∷ [] in
+      let n : pos 0 ≤ℤ (pos 0 -ℤ slope e) =
+      le-of ρ (con (pos 0)) (con (pos 0) ⊖ var 1) (omega (arith, lt-to ρ (var 1) (con (pos 0)) (nonNeg-false (slope e) h))) in
+      rw (sided-right e x k y)
+      (le-of ρ (var 0 ⊕ var 1 ⊗ var 2) (var 0)
+      (omega (arith, le-to ρ (con (pos 0)) ((con (pos 0) ⊖ var 1) ⊗ var 2) (mul-nonneg n (pos-le (omega arith))))))
+
+-- ---- what a side holds
+
+pub side-of : (e : Edge) (c a b : ℕ) → c ≡ mod32 (sided e 0 0) → a ≡ mod32 (slope e) → b ≡ mod32 (pos 8 *ℤ dx e) → SideOf e (sideFrom c a b)
+side-of e c a b hc ha hb =
+    record {
+      here = λ x y.
+          rw (hc, ha, hb)
+          (sym (mod32-affine (sided e 0 0) (slope e) (pos 8 *ℤ dx e) x y) ∙ ap mod32 (sym (sided-affine e x y)));
+      right = ha;
+      reaches = refl;
+      falls = refl;
+      leaps = refl;
+    }
+
+pub step-right : (d : Side) (x k y : ℕ) → (sideAt d x y + d .a * k % 4294967296) % 4294967296 ≡ sideAt d (x + k) y
+step-right d x k y = omega (arith, mul-add (d .a) x k)
+
+module _ (e : Edge) (d : Side) (w : EdgeWithin e) (o : SideOf e d) where
+  -- the sign of the value is the pixel's side
+  pub keeps-inside : (x y : ℕ) → x ≤ 640 → y ≤ 512 → keeps (sideAt d x y) ≡ inside e (sample x y)
+  keeps-inside x y hx hy =
+      ap keeps (o .here x y) ∙ mod32-sign (sided e x y) (sided-small e w x y hx hy) ∙ sym (inside-sided e x y)
+
+  pub keeps-slope : keeps (d .a) ≡ nonNeg (slope e)
+  keeps-slope = ap keeps (o .right) ∙ mod32-sign (slope e) (slope-small e w)
+
+  keeps-sided : (x y : ℕ) → x ≤ 640 → y ≤ 512 → keeps (sideAt d x y) ≡ nonNeg (sided e x y)
+  keeps-sided x y hx hy = keeps-inside x y hx hy ∙ inside-sided e x y
+
+  outside : (x k y : ℕ) → sided e (x + k) y <ℤ pos 0 → inside e (sample (x + k) y) ≡ false
+  outside x k y h = inside-sided e (x + k) y ∙ lt-nonNeg (sided e (x + k) y) h
+
+  within : (x k y : ℕ) → pos 0 ≤ℤ sided e (x + k) y → inside e (sample (x + k) y) ≡ true
+  within x k y h = inside-sided e (x + k) y ∙ le-nonNeg (sided e (x + k) y) h
+
+  top : (x y : ℕ) (b : Bool) → keeps (d .a) ≡ b → (sideAt d x y + d .reach) % 4294967296 ≡ sideAt d (x + choose b 15 0) y
+  top x y true h = rw (o .reaches, h) (step-right d x 15 y)
+  top x y false h = rw (o .reaches, h) (omega (arith, add-zero x))
+
+  low : (x y : ℕ) (b : Bool) → keeps (d .a) ≡ b → (sideAt d x y + d .fall) % 4294967296 ≡ sideAt d (x + choose b 0 15) y
+  low x y true h = rw (o .falls, h) (omega (arith, add-zero x))
+  low x y false h = rw (o .falls, h) (step-right d x 15 y)
+
+  -- a group that the edge's best leaf misses is missed by all its leaves
+  pub misses : (x y : ℕ) → x + 15 ≤ 640 → y ≤ 512 → keeps ((sideAt d x y + d .reach) % 4294967296) ≡ false
+      → (k : ℕ) → k ≤ 15 → inside e (sample (x + k) y) ≡ false
+  misses x y hx hy h k hk = go (keeps (d .a)) refl
+    where
+      go : (b : Bool) → keeps (d .a) ≡ b → inside e (sample (x + k) y) ≡ false
+      go true s =
+          let n : nonNeg (sided e (x + 15) y) ≡ false = sym (keeps-sided (x + 15) y hx hy) ∙ sym (ap keeps (top x y true s)) ∙ h in
+          let r : sided e (x + k) y ≤ℤ sided e (x + k + (15 - k)) y = rises e (x + k) (15 - k) y (sym keeps-slope ∙ s) in
+          let i : x + k + (15 - k) ≡ x + 15 = omega arith in
+          outside x k y (≤ℤ-<ℤ-trans (rw i at r) (nonNeg-false (sided e (x + 15) y) n))
+      go false s =
+          let n : nonNeg (sided e x y) ≡ false =
+          sym (keeps-sided x y (omega arith) hy) ∙ ap (λ (i : ℕ). keeps (sideAt d i y)) (sym (add-zero x)) ∙ sym (ap keeps (top x y false s)) ∙ h in
+          outside x k y (≤ℤ-<ℤ-trans (falls e x k y (sym keeps-slope ∙ s)) (nonNeg-false (sided e x y) n))
+
+  -- a group whose worst leaf is inside the edge is inside with all its leaves
+  pub fills : (x y : ℕ) → x + 15 ≤ 640 → y ≤ 512 → keeps ((sideAt d x y + d .fall) % 4294967296) ≡ true
+      → (k : ℕ) → k ≤ 15 → inside e (sample (x + k) y) ≡ true
+  fills x y hx hy h k hk = go (keeps (d .a)) refl
+    where
+      go : (b : Bool) → keeps (d .a) ≡ b → inside e (sample (x + k) y) ≡ true
+      go true s =
+          let n : nonNeg (sided e x y) ≡ true =
+          sym (keeps-sided x y (omega arith) hy) ∙ ap (λ (i : ℕ). keeps (sideAt d i y)) (sym (add-zero x)) ∙ sym (ap keeps (low x y true s)) ∙ h in
+          within x k y (≤ℤ-trans (nonNeg-true (sided e x y) n) (rises e x k y (sym keeps-slope ∙ s)))
+      go false s =
+          let n : nonNeg (sided e (x + 15) y) ≡ true = sym (keeps-sided (x + 15) y hx hy) ∙ sym (ap keeps (low x y false s)) ∙ h in
+          let r : sided e (x + k + (15 - k)) y ≤ℤ sided e (x + k) y = falls e (x + k) (15 - k) y (sym keeps-slope ∙ s) in
+          let i : x + k + (15 - k) ≡ x + 15 = omega arith in
+          within x k y (≤ℤ-trans (nonNeg-true (sided e (x + 15) y) n) (rw i at r))
+
+  -- where the edge falls to the right and a pixel is outside, so is all to its right
+  pub ends : (x y : ℕ) → x ≤ 640 → y ≤ 512 → keeps (d .a) ≡ false → keeps (sideAt d x y) ≡ false
+      → (k : ℕ) → inside e (sample (x + k) y) ≡ false
+  ends x y hx hy s h k =
+      outside x k y
+      (≤ℤ-<ℤ-trans (falls e x k y (sym keeps-slope ∙ s)) (nonNeg-false (sided e x y) (sym (keeps-sided x y hx hy) ∙ h)))
+
+-- ---- the three edges of a triangle whose vertices are in range
+
+pub edges-in-range : (t : Triangle) → verticesInRange t ≡ true
+    → (edgeInRange (edge1 t) ≡ true) × (edgeInRange (edge2 t) ≡ true) × (edgeInRange (edge3 t) ≡ true)
+unfolding verticesInRange
+edges-in-range t h =
+    let X1 = vertexInRange (t .x1) in
+    let Y1 = vertexInRange (t .y1) in
+    let X2 = vertexInRange (t .x2) in
+    let Y2 = vertexInRange (t .y2) in
+    let X3 = vertexInRange (t .x3) in
+    let f = and-true {a = X1 && Y1 && X2 && Y2 && X3} {b = vertexInRange (t .y3)} h in
+    let e = and-true {a = X1 && Y1 && X2 && Y2} {b = X3} (f .0) in
+    let d = and-true {a = X1 && Y1 && X2} {b = Y2} (e .0) in
+    let c = and-true {a = X1 && Y1} {b = X2} (d .0) in
+    let b = and-true {a = X1} {b = Y1} (c .0) in
+    (rw (b .0, b .1, c .1, d .1), rw (c .1, d .1, e .1, f .1), rw (e .1, f .1, b .0, b .1))
+
+-- an edge as a callee reads it, from the machine's words
+abbrev pub read : Edge → Edge
+read e =
+    edgeFrom (toZ w32 (ofZ w32 (e .x1))) (toZ w32 (ofZ w32 (e .y1))) (toZ w32 (ofZ w32 (e .x2))) (toZ w32 (ofZ w32 (e .y2)))
+
+module _ (e : Edge) (h : edgeInRange e ≡ true) where
+  pub read-edge : read e ≡ e
+  read-edge =
+      let w = edge-within e h in
+      λ i.
+      record {
+        x1 = toZ-ofZ w32 (e .x1) (fits-32 (w .in-x1) (omega arith)) i;
+        y1 = toZ-ofZ w32 (e .y1) (fits-32 (w .in-y1) (omega arith)) i;
+        x2 = toZ-ofZ w32 (e .x2) (fits-32 (w .in-x2) (omega arith)) i;
+        y2 = toZ-ofZ w32 (e .y2) (fits-32 (w .in-y2) (omega arith)) i;
+      }
+
+  pub read-in-range : edgeInRange (read e) ≡ true
+  read-in-range = ap edgeInRange read-edge ∙ h

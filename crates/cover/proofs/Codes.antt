@@ -1,0 +1,44 @@
+-- An edge's differences and its value as the machine computes them, in 64 bits, from vertices in range.
+use mir.Syntax.{w32, w64}
+use Rattle.ints.proofs.Machine.{got-in, got-lit, Code, known, cast, _⊟_, _⊠_}
+use Rattle.rules.specs.Triangles.{Edge}
+use Rattle.cover.proofs.Along.{EdgeWithin}
+
+abbrev pub zeroC : Code w64
+zeroC = known (got-lit w64 0 tt)
+
+abbrev pub eightC : Code w64
+eightC = known (got-lit w64 8 tt)
+
+module _ (e : Edge) (w : EdgeWithin e) where
+  abbrev pub x1C : Code w64
+  x1C = cast w64 (known (got-in {w = w32} (w .in-x1) tt))
+
+  abbrev pub y1C : Code w64
+  y1C = cast w64 (known (got-in {w = w32} (w .in-y1) tt))
+
+  abbrev pub x2C : Code w64
+  x2C = cast w64 (known (got-in {w = w32} (w .in-x2) tt))
+
+  abbrev pub y2C : Code w64
+  y2C = cast w64 (known (got-in {w = w32} (w .in-y2) tt))
+
+  abbrev pub dxC : Code w64
+  dxC = x2C ⊟ x1C
+
+  abbrev pub dyC : Code w64
+  dyC = y2C ⊟ y1C
+
+  abbrev pub slopeC : Code w64
+  slopeC = zeroC ⊟ eightC ⊠ dyC
+
+  -- at the sample point (px, py)
+  module _ (px py : Code w64) where
+    abbrev pub leftC : Code w64
+    leftC = px ⊟ x1C
+
+    abbrev pub upC : Code w64
+    upC = py ⊟ y1C
+
+    abbrev pub valueC : Code w64
+    valueC = upC ⊠ dxC ⊟ leftC ⊠ dyC

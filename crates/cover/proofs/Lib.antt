@@ -1,0 +1,8 @@
+-- The laws behind the functions' proofs.
+pub mod Mask
+pub mod Along
+pub mod Codes
+pub mod Leaves
+pub mod Outside
+pub mod Raised
+pub mod Large

@@ -1,0 +1,38 @@
+-- Where the least raised number is below 8,192 nothing is claimed; else its whole pixels past 8,192 lie before all three.
+use Prim.Native.Nat.{_+_, _*_, _≤_}
+use native.Mathlib.Omega.{arith}
+use borrow.Author.Needs.{needs}
+use Rattle.cover.proofs.Raised.{before-raised}
+use Rattle.cover.proofs.extent.first_touched.Statement.{statement}
+use Rattle.cover.proofs.extent.first_touched.Tie as tie
+
+raised-requires : tie.Need-raised-requires
+raised-requires c κs = search needs
+
+raised-requires-2 : tie.Need-raised-requires-2
+raised-requires-2 c κs = search needs
+
+raised-requires-3 : tie.Need-raised-requires-3
+raised-requires-3 c κs = search needs
+
+least-requires : tie.Need-least-requires
+least-requires c κs = search needs
+
+returns : tie.Need-returns
+returns c k h = absurd (omega arith)
+
+returns-2 : tie.Need-returns-2
+returns-2 c k h =
+    let s = c .before .before .before .before .before in
+    let l = c .before .least in
+    let n : 8200 + 8 * k ≤ l .result = omega (arith, h, c .if1 .left) in
+    record {
+      first = before-raised (s .fits .a) (c .before .before .before .before .raised .ensures .0) k (l .ensures .0) n;
+      second = before-raised (s .fits .b) (c .before .before .before .raised2 .ensures .0) k (l .ensures .1) n;
+      third = before-raised (s .fits .c) (c .before .before .raised3 .ensures .0) k (l .ensures .2) n;
+    }
+
+pub first-touched-spec : {M : Type 1} → statement M
+first-touched-spec =
+    tie.close
+    (tie.spec raised-requires raised-requires-2 raised-requires-3 least-requires returns returns-2)

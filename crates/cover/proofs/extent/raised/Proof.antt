@@ -1,0 +1,48 @@
+-- The number is within 8,192 either way, so the sum is a natural number up to 16,384.
+use Prim.Native.Nat.{_+_, _≤_}
+use mathlib.Core.Path.{sym, _∙_, ap, subst}
+use mathlib.Core.List.{List, [], _∷_}
+use native.Mathlib.Omega.{arith}
+use lib.IntN.{ℤ, pos, natAbs, negℤ, _+ℤ_}
+use lib.Signed.{_≤ℤ_}
+use mir.Syntax.{w32, w64}
+use Rattle.ints.proofs.Poly.{var, con, _⊕_}
+use Rattle.ints.proofs.Order.{le-of, le-to, natural}
+use Rattle.ints.proofs.Bounds.{Within, within-lo}
+use Rattle.ints.proofs.Machine.{got-arg, got-lit, Code, known, cast, _⊞_, need, got-of, reads-as, need-unsigned}
+use Rattle.cover.proofs.Along.{vertex-within}
+use Rattle.cover.proofs.extent.raised.Statement.{statement}
+use Rattle.cover.proofs.extent.raised.Tie as tie
+
+within : (c : tie.Start) → Within 8192 (c .args .v)
+within c = vertex-within (c .args .v) (c .pre)
+
+abbrev wide : tie.Start → Code w64
+wide c = cast w64 (known (got-arg (c .fits .v) (within c)))
+
+abbrev sumC : tie.Start → Code w64
+sumC c = wide c ⊞ known (got-lit w64 8192 tt)
+
+not-negative : (c : tie.Start) → pos 0 ≤ℤ (c .args .v +ℤ pos 8192)
+not-negative c =
+    let ρ : List ℤ = c .args .v ∷ [] in
+    le-of ρ (con (pos 0)) (var 0 ⊕ con (pos 8192)) (omega (arith, le-to ρ (con (negℤ (pos 8192))) (var 0) (within-lo (within c))))
+
+cast-result : tie.Need-cast-result
+cast-result c = need (wide c) tt
+
+add-result : tie.Need-add-result
+add-result c = need (sumC c) tt
+
+cast-result-2 : tie.Need-cast-result-2
+cast-result-2 c = need-unsigned w32 (got-of (sumC c) tt) (not-negative c) tt
+
+returns : tie.Need-returns
+returns c =
+    let e = reads-as (sumC c) tt in (
+      ap (λ (z : ℤ). pos (natAbs z)) e ∙ sym (natural (not-negative c)),
+      subst (λ (z : ℤ). natAbs z ≤ 16384) (sym e) (got-of (sumC c) tt .bound .within),
+    )
+
+pub raised-spec : {M : Type 1} → statement M
+raised-spec = tie.close (tie.spec cast-result add-result cast-result-2 returns)

@@ -1,0 +1,68 @@
+// Numbers 6 and 7: vertices and edge values in range.
+use crate::setup::SAMPLE_X;
+use crate::setup::SAMPLE_Y;
+use rules::Triangle;
+ghost use mathlib.Core.Path.{_≡_};
+ghost use mathlib.Core.Bool.{true, _&&_};
+ghost use Prim.Native.Nat.{_≤_};
+ghost use lib.Dec.{ltb};
+ghost use Rattle.rules.specs.Turns.{pixels};
+ghost use Rattle.rules.specs.Numbers.{vertexInRange, verticesInRange, edgeTooLarge, triangleTooLarge};
+ghost use Rattle.cover.specs.Side.{edgeFrom, edgeInRange};
+
+// Whether a vertex number is in -8192..8191.
+fn vertex_in_range(v: i32) -> bool
+    ensures { λ r. ⌜ r ≡ vertexInRange v ⌝ }
+{
+    -8192 <= v && v <= 8191
+}
+
+// Whether both numbers of a vertex are in range.
+fn point_in_range(x: i32, y: i32) -> bool
+    ensures { λ r. ⌜ r ≡ vertexInRange x && vertexInRange y ⌝ }
+{
+    vertex_in_range(x) & vertex_in_range(y)
+}
+
+// Number 6: whether all six vertex numbers are in range.
+pub fn vertices_in_range(t: Triangle) -> bool
+    ensures { λ r. ⌜ r ≡ verticesInRange t ⌝ }
+{
+    point_in_range(t.x1, t.y1) & point_in_range(t.x2, t.y2) & point_in_range(t.x3, t.y3)
+}
+
+// Whether the edge value at pixel (x, y) leaves signed 32 bits.
+fn pixel_too_large(x1: i32, y1: i32, x2: i32, y2: i32, x: u32, y: u32) -> bool
+    requires { ⌜ (edgeInRange (edgeFrom x1 y1 x2 y2) ≡ true) × (x ≤ 640) × (y ≤ 512) ⌝ }
+    ensures { λ r. ⌜ r ≡ edgeTooLarge (edgeFrom x1 y1 x2 y2) x y ⌝ }
+{
+    let dx = x2 as i64 - x1 as i64;
+    let dy = y2 as i64 - y1 as i64;
+    let px = 8 * (x as i64) + SAMPLE_X;
+    let py = 8 * (y as i64) + SAMPLE_Y;
+    let v = (py - y1 as i64) * dx - (px - x1 as i64) * dy;
+    (v < -2147483648) | (2147483647 < v)
+}
+
+// Whether it does so at some pixel of w columns and h rows: it is largest and least at the corners.
+fn edge_too_large(x1: i32, y1: i32, x2: i32, y2: i32, w: u32, h: u32) -> bool
+    requires { ⌜ (edgeInRange (edgeFrom x1 y1 x2 y2) ≡ true) × (1 ≤ w) × (w ≤ 640) × (1 ≤ h) × (h ≤ 512) ⌝ }
+    ensures { λ r. ⌜ r ≡ ltb 0 (pixels (edgeTooLarge (edgeFrom x1 y1 x2 y2)) w h) ⌝ }
+{
+    let right = w - 1;
+    let bottom = h - 1;
+    pixel_too_large(x1, y1, x2, y2, 0, 0)
+        | pixel_too_large(x1, y1, x2, y2, right, 0)
+        | pixel_too_large(x1, y1, x2, y2, 0, bottom)
+        | pixel_too_large(x1, y1, x2, y2, right, bottom)
+}
+
+// Number 7: whether an edge value leaves signed 32 bits at some pixel of w columns and h rows.
+pub fn triangle_too_large(t: Triangle, w: u32, h: u32) -> bool
+    requires { ⌜ (verticesInRange t ≡ true) × (1 ≤ w) × (w ≤ 640) × (1 ≤ h) × (h ≤ 512) ⌝ }
+    ensures { λ r. ⌜ r ≡ triangleTooLarge t w h ⌝ }
+{
+    edge_too_large(t.x1, t.y1, t.x2, t.y2, w, h)
+        | edge_too_large(t.x2, t.y2, t.x3, t.y3, w, h)
+        | edge_too_large(t.x3, t.y3, t.x1, t.y1, w, h)
+}

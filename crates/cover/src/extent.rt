@@ -1,0 +1,74 @@
+// Which columns or rows a triangle can touch.
+ghost use mathlib.Core.Path.{_≡_};
+ghost use mathlib.Core.Bool.{true};
+ghost use Prim.Native.Nat.{ℕ, _≤_, _<_};
+ghost use lib.IntN.{pos, _+ℤ_};
+ghost use Rattle.rules.specs.Numbers.{vertexInRange};
+ghost use Rattle.cover.specs.Extent.{Before, Beyond};
+
+// A vertex number raised by 8,192, so that it is not negative.
+fn raised(v: i32) -> u32
+    requires { ⌜ vertexInRange v ≡ true ⌝ }
+    ensures { λ r. ⌜ pos r ≡ v +ℤ pos 8192 ⌝ }
+    ensures { λ r. ⌜ r ≤ 16384 ⌝ }
+{
+    (v as i64 + 8192) as u32
+}
+
+// A number that is at most each of the three.
+fn least(a: u32, b: u32, c: u32) -> u32
+    ensures { λ r. ⌜ (r ≤ a) × (r ≤ b) × (r ≤ c) ⌝ }
+{
+    if a <= b {
+        if a <= c {
+            return a;
+        }
+        return c;
+    }
+    if b <= c {
+        return b;
+    }
+    c
+}
+
+// A number that is at least each of the three.
+fn greatest(a: u32, b: u32, c: u32) -> u32
+    requires { ⌜ (a ≤ 16384) × (b ≤ 16384) × (c ≤ 16384) ⌝ }
+    ensures { λ r. ⌜ (a ≤ r) × (b ≤ r) × (c ≤ r) × (r ≤ 16384) ⌝ }
+{
+    if b <= a {
+        if c <= a {
+            return a;
+        }
+        return c;
+    }
+    if c <= b {
+        return b;
+    }
+    c
+}
+
+// All columns (or rows) below this one lie wholly before the three numbers.
+pub fn first_touched(a: i32, b: i32, c: i32) -> u32
+    requires { ⌜ (vertexInRange a ≡ true) × (vertexInRange b ≡ true) × (vertexInRange c ≡ true) ⌝ }
+    ensures { λ r. ⌜ ((k : ℕ) → k < r → Before a b c k) ⌝ }
+{
+    let low = least(raised(a), raised(b), raised(c));
+    if low < 8192 {
+        return 0;
+    }
+    (low - 8192) / 8
+}
+
+// This column (or row) and all after it lie wholly beyond the three numbers.
+pub fn past_touched(a: i32, b: i32, c: i32) -> u32
+    requires { ⌜ (vertexInRange a ≡ true) × (vertexInRange b ≡ true) × (vertexInRange c ≡ true) ⌝ }
+    ensures { λ r. ⌜ ((k : ℕ) → r ≤ k → Beyond a b c k) ⌝ }
+    ensures { λ r. ⌜ r ≤ 1025 ⌝ }
+{
+    let high = greatest(raised(a), raised(b), raised(c));
+    if high < 8192 {
+        return 0;
+    }
+    (high - 8192) / 8 + 1
+}

@@ -1,0 +1,107 @@
+// From vertices to sides.
+use crate::Side;
+use crate::Sides;
+use crate::Values;
+use rules::Triangle;
+use words::low32;
+use words::product32;
+ghost use mathlib.Core.Path.{_≡_};
+ghost use mathlib.Core.Bool.{true, _||_, _&&_};
+ghost use lib.IntN.{pos};
+ghost use Rattle.rules.specs.Turns.{choose};
+ghost use Rattle.rules.specs.Triangles.{positive, isZero, negative};
+ghost use Rattle.rules.specs.Numbers.{verticesInRange};
+ghost use Rattle.cover.specs.Side.{edgeFrom, edgeInRange, sideFrom, valuesFrom, sidesFrom, SideOf, SidesOf};
+
+// The sample point of pixel (0, 0).
+pub const SAMPLE_X: i64 = 0;
+
+pub const SAMPLE_Y: i64 = 0;
+
+// What an edge's value loses where its zeros are outside.
+fn loss(dx: i64, dy: i64) -> i64
+    ensures { λ r. ⌜ r ≡ choose (negative dy || isZero dy && positive dx) (pos 0) (pos 1) ⌝ }
+{
+    if dy < 0 {
+        return 0;
+    }
+    if 0 < dy {
+        return 1;
+    }
+    if 0 < dx {
+        return 0;
+    }
+    1
+}
+
+// The side of the edge from (x1, y1) to (x2, y2): its lowered value at every pixel, and what steps to the right add.
+pub fn side(x1: i32, y1: i32, x2: i32, y2: i32) -> Side
+    requires { ⌜ edgeInRange (edgeFrom x1 y1 x2 y2) ≡ true ⌝ }
+    ensures { λ r. ⌜ SideOf (edgeFrom x1 y1 x2 y2) r ⌝ }
+{
+    let dx = x2 as i64 - x1 as i64;
+    let dy = y2 as i64 - y1 as i64;
+    let v = (SAMPLE_Y - y1 as i64) * dx - (SAMPLE_X - x1 as i64) * dy;
+    let c = low32(v - loss(dx, dy));
+    let a = low32(0 - 8 * dy);
+    let b = low32(8 * dx);
+    stepping(c, a, b)
+}
+
+// A side with what its leaves add: reach where a is not negative, else fall.
+fn stepping(c: u32, a: u32, b: u32) -> Side
+    ensures { λ r. ⌜ r ≡ sideFrom c a b ⌝ }
+{
+    let across = product32(a, 15);
+    let leap = product32(a, 16);
+    if a < 2147483648 {
+        return Side {
+            c,
+            a,
+            b,
+            reach: across,
+            fall: 0,
+            leap,
+        };
+    }
+    Side {
+        c,
+        a,
+        b,
+        reach: 0,
+        fall: across,
+        leap,
+    }
+}
+
+// The sides of the triangle's three edges, in the vertices' order.
+pub fn sides(t: Triangle) -> Sides
+    requires { ⌜ verticesInRange t ≡ true ⌝ }
+    ensures { λ r. ⌜ SidesOf t r ⌝ }
+{
+    let p = side(t.x1, t.y1, t.x2, t.y2);
+    let q = side(t.x2, t.y2, t.x3, t.y3);
+    let r = side(t.x3, t.y3, t.x1, t.y1);
+    together(p, q, r)
+}
+
+// Three sides, number by number.
+fn together(p: Side, q: Side, r: Side) -> Sides
+    ensures { λ d. ⌜ d ≡ sidesFrom p q r ⌝ }
+{
+    Sides {
+        c: three(p.c, q.c, r.c),
+        a: three(p.a, q.a, r.a),
+        b: three(p.b, q.b, r.b),
+        reach: three(p.reach, q.reach, r.reach),
+        fall: three(p.fall, q.fall, r.fall),
+        leap: three(p.leap, q.leap, r.leap),
+    }
+}
+
+// The numbers of the three edges.
+fn three(p: u32, q: u32, r: u32) -> Values
+    ensures { λ v. ⌜ v ≡ valuesFrom p q r ⌝ }
+{
+    Values { p, q, r }
+}

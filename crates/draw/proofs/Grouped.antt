@@ -1,0 +1,166 @@
+-- The loop over a group's leaves: what holds after k of them, that it holds at the first named leaf, that one leaf more keeps it, and that
+-- with nothing left of the mask the whole group is drawn.
+use Prim.Native.Nat.{ℕ, zero, suc, _+_, _*_, _^_, _-_, _%_, _≤_, _<_}
+use mathlib.Core.Path.{_≡_, refl, sym, _∙_, ap, ap₂, subst}
+use mathlib.Core.Logic.{_≢_}
+use mathlib.Core.Bool.{Bool, true, false, _&&_}
+use mathlib.Core.List.{List}
+use native.Mathlib.Omega.{arith}
+use lib.Count.{leadingZeros, leading-le}
+use lib.Dec.{ltb, leb}
+use lib.ListN.{length}
+use borrow.Author.Tests.{lt-ltb, le-ltb}
+use Rattle.rules.specs.declared.Screen.{Screen}
+use Rattle.rules.specs.declared.Triangle.{Triangle}
+use Rattle.rules.specs.Turns.{upto, bit, howMany, choose}
+use Rattle.rules.specs.Sizes.{width, height, colourAt, depthAt, half, putHalf, putPixel}
+use Rattle.rules.specs.Triangles.{topHalf, packed, triangleDepth, triangleColour, covered, written, pixelDrawn}
+use Rattle.rules.proofs.Turns.{upto-more, upto-add, upto-still, howMany-more, howMany-add, howMany-none}
+use Rattle.rules.proofs.Pixels.{Sound, On, sound-facts}
+use Rattle.cover.specs.Mask.{maskOf}
+use Rattle.cover.proofs.Mask.{mask-same, mask-small}
+use Rattle.draw.specs.declared.Tints.{Tints}
+use Rattle.draw.specs.Planes.{tintsAt, tintSteps, tintsMoved}
+use Rattle.draw.specs.Leaves.{passes, LeafDone, GroupOn, GroupAsked, GroupDone}
+use Rattle.draw.proofs.Affine.{tints-right}
+use Rattle.draw.proofs.Rest.{from, rest, rest-top, rest-next, rest-none, mask-shifted, mask-zero, leading-named}
+use Rattle.draw.proofs.Stretch.{not-written, pixel-still, stretch, length-stretch, written-stretch}
+
+-- leaf j, and none from 16 on
+abbrev pub leafOn : Triangle → Screen → ℕ → ℕ → ℕ → Bool
+leafOn t s x y j = ltb j 16 && covered t s (x + j) y
+
+pub record Turn (m₀ : List ℕ) (s : Screen) (t : Triangle) (x y : ℕ) (m : List ℕ) (left k : ℕ) (v : Tints) (w : ℕ) : Type 0 where
+  pub leaves : k ≤ 16
+  pub is-left : left ≡ rest (leafOn t s x y) k
+  pub is-tints : v ≡ tintsAt t (x + k) y
+  pub is-memory : m ≡ stretch t s y x k m₀
+  pub is-written : w ≡ howMany (λ i. written t s m₀ (x + i) y) k
+
+module _ (s : Screen) (t : Triangle) (x y : ℕ) where
+  past : (i : ℕ) → 16 ≤ i → leafOn t s x y i ≡ false
+  past i h = rw (le-ltb i 16 h)
+
+  leaf-is : (k : ℕ) → k < 16 → leafOn t s x y k ≡ covered t s (x + k) y
+  leaf-is k h = rw (lt-ltb k 16 h)
+
+  named : maskOf (λ k. covered t s (x + k) y) 16 ≡ maskOf (leafOn t s x y) 16
+  named = mask-same (λ k. covered t s (x + k) y) (leafOn t s x y) 16 (λ k h. sym (leaf-is k h))
+
+  -- before a stretch of leaves that are not covered
+  module _ (m : List ℕ) (n : ℕ) (none : (i : ℕ) → i < n → covered t s (x + i) y ≡ false) where
+    pub stretch-still : stretch t s y x n m ≡ m
+    stretch-still = upto-still (λ k. pixelDrawn t s y (x + k)) n m (λ i h. pixel-still t s y (x + i) m (none i h))
+
+    pub none-written : howMany (λ i. written t s m (x + i) y) n ≡ 0
+    none-written = howMany-none (λ i. written t s m (x + i) y) n (λ i h. not-written t s m (x + i) y (none i h))
+
+  pub turn-first : (m : List ℕ) (mask : ℕ) → mask ≡ maskOf (λ k. covered t s (x + k) y) 16
+      → Turn m s t x y m (mask * 2 ^ leadingZeros 16 mask % 4294967296) (leadingZeros 16 mask) (tintsAt t (x + leadingZeros 16 mask) y) 0
+  turn-first m mask e = subst (λ (n : ℕ). Turn m s t x y m (n * 2 ^ leadingZeros 16 n % 4294967296) (leadingZeros 16 n) (tintsAt t (x + leadingZeros 16 n) y) 0) (sym (e ∙ named)) go
+    where
+      f : ℕ → Bool
+      f = leafOn t s x y
+
+      skip : ℕ
+      skip = leadingZeros 16 (maskOf f 16)
+
+      few : skip ≤ 16
+      few = leading-le 16 (maskOf f 16)
+
+      none : (i : ℕ) → i < skip → covered t s (x + i) y ≡ false
+      none i h = sym (leaf-is i (omega (arith, few))) ∙ leading-named f i h
+
+      go : Turn m s t x y m (maskOf f 16 * 2 ^ skip % 4294967296) skip (tintsAt t (x + skip) y) 0
+      go =
+          let a : maskOf f 16 * 2 ^ skip ≡ rest f skip = mask-shifted f past skip (leading-named f) in
+          let b : rest f skip < 65536 = mask-small (from f skip) 16 (omega arith) in
+          record {
+            leaves = few;
+            is-left = omega arith;
+            is-tints = refl;
+            is-memory = sym (stretch-still m skip none);
+            is-written = sym (none-written m skip none);
+          }
+
+  module _ (m₀ m : List ℕ) (left k : ℕ) (v : Tints) (w : ℕ) (u : Turn m₀ s t x y m left k v w) where
+    pub still-left : left ≢ 0 → k < 16
+    still-left h = omega-of (λ (e : k ≡ 16). h (u .is-left ∙ ap (rest (leafOn t s x y)) e ∙ rest-none (leafOn t s x y) past))
+      where
+        omega-of : (k ≡ 16 → ⊥) → k < 16
+        omega-of g = let n : k ≢ 16 = g in omega (arith, u .leaves)
+
+    module _ (l : ℕ) (e : length m₀ ≡ l) (o : GroupOn l s x y) where
+      facts : Sound l s
+      facts = sound-facts (o .is-sound)
+
+      pub on-leaf : k < 16 → On s (x + k) y
+      on-leaf h = record { across = omega (arith, o .columns); down = o .row }
+
+      pub length-now : length m ≡ l
+      length-now = ap length (u .is-memory) ∙ length-stretch t s y x k m₀ ∙ e
+
+      -- the test of the code is the definition's
+      judged : k < 16 → passes m left (depthAt s (x + k) y) v ≡ written t s m (x + k) y
+      unfolding written triangleDepth
+      judged h =
+          ap₂ _&&_ (ap (leb 32768) (u .is-left) ∙ rest-top (leafOn t s x y) k ∙ leaf-is k h)
+          (ap (λ (z : Tints). leb (topHalf (z .depth)) (half m (depthAt s (x + k) y))) (u .is-tints))
+
+      put-is : (b : Bool)
+          → choose b (putHalf (putHalf m (colourAt s (x + k) y) (packed (v .red) (v .green) (v .blue))) (depthAt s (x + k) y) (topHalf (v .depth))) m
+          ≡ choose b (putPixel s (x + k) y (triangleColour t (x + k) y) (triangleDepth t (x + k) y) m) m
+      unfolding putPixel triangleColour triangleDepth
+      put-is b =
+          ap (λ (z : Tints). choose b (putHalf (putHalf m (colourAt s (x + k) y) (packed (z .red) (z .green) (z .blue))) (depthAt s (x + k) y) (topHalf (z .depth))) m)
+          (u .is-tints)
+
+      pub turn-more : k < 16 → (r : ℕ) (m′ : List ℕ) → LeafDone m left (colourAt s (x + k) y) (depthAt s (x + k) y) v r m′
+          → Turn m₀ s t x y m′ (left * 2 % 65536) (k + 1) (tintsMoved v (tintSteps t)) (w + r)
+      unfolding pixelDrawn
+      turn-more h r m′ d =
+          let i : x + k + 1 ≡ x + (k + 1) = omega arith in
+          record {
+            leaves = omega arith;
+            is-left = ap (λ (n : ℕ). n * 2 % 65536) (u .is-left) ∙ rest-next (leafOn t s x y) k (past (k + 16) (omega arith));
+            is-tints = ap (λ (z : Tints). tintsMoved z (tintSteps t)) (u .is-tints) ∙ tints-right t (x + k) y ∙ ap (λ (n : ℕ). tintsAt t n y) i;
+            is-memory =
+                d .leaves
+                ∙ put-is (passes m left (depthAt s (x + k) y) v)
+                ∙ ap (λ (b : Bool). choose b (putPixel s (x + k) y (triangleColour t (x + k) y) (triangleDepth t (x + k) y) m) m) (judged h)
+                ∙ ap (pixelDrawn t s y (x + k)) (u .is-memory)
+                ∙ sym (upto-more (λ j. pixelDrawn t s y (x + j)) k m₀);
+            is-written =
+                ap₂ _+_ (u .is-written)
+                (d .counts
+                ∙ ap bit
+                (judged h
+                ∙ ap (λ (n : List ℕ). written t s n (x + k) y) (u .is-memory)
+                ∙ written-stretch t s facts m₀ e y x k k (on-leaf h) (omega arith)))
+                ∙ sym (howMany-more (λ j. written t s m₀ (x + j) y) k);
+          }
+
+    pub turn-last : left ≡ 0 → GroupDone m₀ s t x y w m
+    turn-last z = record { counts = u .is-written ∙ same-count; leaves = u .is-memory ∙ same-memory }
+      where
+        none : (i : ℕ) → i < 16 - k → covered t s (x + (k + i)) y ≡ false
+        none i h =
+            sym (leaf-is (k + i) (omega arith))
+            ∙ mask-zero (from (leafOn t s x y) k) 16 (sym (u .is-left) ∙ z) i (omega arith)
+
+        sixteen : k + (16 - k) ≡ 16
+        sixteen = omega (arith, u .leaves)
+
+        same-count : howMany (λ i. written t s m₀ (x + i) y) k ≡ howMany (λ i. written t s m₀ (x + i) y) 16
+        same-count =
+            let f : ℕ → Bool = λ i. written t s m₀ (x + i) y in
+            let n : howMany (λ i. f (k + i)) (16 - k) ≡ 0 =
+            howMany-none (λ i. f (k + i)) (16 - k) (λ i h. not-written t s m₀ (x + (k + i)) y (none i h)) in
+            omega (arith, howMany-add f k (16 - k), ap (howMany f) sixteen)
+
+        same-memory : stretch t s y x k m₀ ≡ stretch t s y x 16 m₀
+        same-memory =
+            sym (upto-still (λ i. pixelDrawn t s y (x + (k + i))) (16 - k) (stretch t s y x k m₀)
+            (λ i h. pixel-still t s y (x + (k + i)) (stretch t s y x k m₀) (none i h)))
+            ∙ sym (upto-add (λ i. pixelDrawn t s y (x + i)) k (16 - k) m₀)
+            ∙ ap (λ (n : ℕ). stretch t s y x n m₀) sixteen

@@ -1,0 +1,8 @@
+pub mod Affine
+pub mod Rest
+pub mod Stretch
+pub mod Grouped
+pub mod Rowed
+pub mod Touch
+pub mod Framed
+pub mod Refused

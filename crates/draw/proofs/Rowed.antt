@@ -1,0 +1,190 @@
+-- The loop over a row's groups: what holds before group g, that it holds at the first touched group, that one group more keeps it, and that
+-- with nothing inside from g on the whole row is drawn.
+use Prim.Native.Nat.{ℕ, zero, suc, _+_, _*_, _-_, _%_, _≤_, _<_}
+use mathlib.Core.Path.{_≡_, refl, sym, _∙_, ap, ap₂, subst}
+use mathlib.Core.Bool.{Bool, true, false, _&&_}
+use mathlib.Core.List.{List}
+use native.Mathlib.Omega.{arith}
+use lib.Count.{ones}
+use lib.ListN.{length}
+use borrow.Author.Tests.{lt-ltb}
+use Rattle.rules.specs.declared.Screen.{Screen}
+use Rattle.rules.specs.declared.Triangle.{Triangle}
+use Rattle.rules.specs.Turns.{upto, bit, howMany}
+use Rattle.rules.specs.Sizes.{groups, width, height, sound}
+use Rattle.rules.specs.Triangles.{sample, insideAll, covered, written, pixelDrawn, rowDrawn}
+use Rattle.rules.proofs.Turns.{upto-add, upto-still, howMany-add, howMany-none, howMany-same}
+use Rattle.rules.proofs.Pixels.{Sound, On, sound-facts, width-le, height-le}
+use Rattle.rules.proofs.Drawing.{length-pixels, written-left}
+use Rattle.cover.specs.declared.Side.{Side}
+use Rattle.cover.specs.declared.Sides.{Sides}
+use Rattle.cover.specs.declared.Values.{Values}
+use Rattle.cover.specs.Side.{SideOf, sideAt, first, second, third}
+use Rattle.cover.specs.Mask.{GroupAt, leafInside, maskOf, valuesAt, moved}
+use Rattle.cover.proofs.Mask.{mask-same}
+use Rattle.cover.proofs.Along.{step-right}
+use Rattle.draw.specs.declared.Counts.{Counts}
+use Rattle.draw.specs.Leaves.{GroupOn, GroupDone}
+use Rattle.draw.specs.Rows.{VisitDone, RowAsked, RowDone}
+use Rattle.draw.proofs.Stretch.{not-written, pixel-still}
+use Rattle.draw.proofs.Rest.{mask-zero}
+use Rattle.draw.proofs.Grouped.{stretch-still, none-written}
+
+-- on the screen, covered is inside
+pub covered-is : (t : Triangle) (s : Screen) {x y : ℕ} → On s x y → covered t s x y ≡ insideAll t (sample x y)
+unfolding covered
+covered-is t s p = rw (lt-ltb _ _ (p .across), lt-ltb _ _ (p .down))
+
+pub outside-uncovered : (t : Triangle) (s : Screen) {x y : ℕ} → On s x y → insideAll t (sample x y) ≡ false → covered t s x y ≡ false
+outside-uncovered t s p h = covered-is t s p ∙ h
+
+module _ (t : Triangle) (s : Screen) (n x y : ℕ) (o : GroupOn n s x y) where
+  on-group : (k : ℕ) → k < 16 → On s (x + k) y
+  on-group k h = record { across = omega (arith, o .columns); down = o .row }
+
+  pub mask-covered : maskOf (leafInside t x y) 16 ≡ maskOf (λ k. covered t s (x + k) y) 16
+  mask-covered = mask-same (leafInside t x y) (λ k. covered t s (x + k) y) 16 (λ k h. sym (covered-is t s (on-group k h)))
+
+  pub visit-nothing : (m : List ℕ) → maskOf (leafInside t x y) 16 ≡ 0 → VisitDone m s t x y (record { covered = 0; written = 0 }) m
+  visit-nothing m e =
+      let none : (i : ℕ) → i < 16 → covered t s (x + i) y ≡ false = mask-zero (λ k. covered t s (x + k) y) 16 (sym mask-covered ∙ e) in
+      record {
+        covers = sym (howMany-none (λ k. covered t s (x + k) y) 16 none);
+        draws = record { counts = sym (none-written s t x y m 16 none); leaves = sym (stretch-still s t x y m 16 none) };
+      }
+
+-- a leap of sixteen
+leap-one : (e : Side) (x y : ℕ) → e .leap ≡ e .a * 16 % 4294967296 → (sideAt e x y + e .leap) % 4294967296 ≡ sideAt e (x + 16) y
+leap-one e x y h = ap (λ (n : ℕ). (sideAt e x y + n) % 4294967296) h ∙ step-right e x 16 y
+
+pub record Across (m₀ : List ℕ) (s : Screen) (t : Triangle) (d : Sides) (y b : ℕ) (m : List ℕ) (g : ℕ) (v : Values) (c w : ℕ) : Type 0 where
+  pub before-end : g ≤ b
+  pub is-values : v ≡ valuesAt d (g * 16) y
+  pub is-memory : m ≡ upto (pixelDrawn t s y) (g * 16) m₀
+  pub is-covered : c ≡ howMany (λ x. covered t s x y) (g * 16)
+  pub is-written : w ≡ howMany (λ x. written t s m₀ x y) (g * 16)
+
+module _ (m₀ : List ℕ) (s : Screen) (t : Triangle) (d : Sides) (y a b : ℕ) (q : RowAsked (length m₀) s t d y a b) where
+  facts : Sound (length m₀) s
+  facts = sound-facts (q .is-sound)
+
+  on : (x : ℕ) → x < width (s .size) → On s x y
+  on x h = record { across = h; down = q .row }
+
+  pub across-first : Across m₀ s t d y b m₀ a (valuesAt d (a * 16) y) 0 0
+  across-first =
+      let none : (x : ℕ) → x < a * 16 → covered t s x y ≡ false =
+      λ x h. outside-uncovered t s (on x (omega (arith, q .ordered, q .columns))) (q .before x h) in
+      record {
+        before-end = q .ordered;
+        is-values = refl;
+        is-memory = sym (upto-still (pixelDrawn t s y) (a * 16) m₀ (λ x h. pixel-still t s y x m₀ (none x h)));
+        is-covered = sym (howMany-none (λ x. covered t s x y) (a * 16) none);
+        is-written = sym (howMany-none (λ x. written t s m₀ x y) (a * 16) (λ x h. not-written t s m₀ x y (none x h)));
+      }
+
+  module _ (m : List ℕ) (g : ℕ) (v : Values) (c w : ℕ) (u : Across m₀ s t d y b m g v c w) where
+    pub length-across : length m ≡ length m₀
+    length-across = ap length (u .is-memory) ∙ length-pixels t s y (g * 16) m₀
+
+    pub group-on : g < b → GroupOn (length m) s (g * 16) y
+    group-on h =
+        record {
+          is-sound = subst (λ (n : ℕ). sound n s ≡ true) (sym length-across) (q .is-sound);
+          columns = omega (arith, q .columns);
+          row = q .row;
+        }
+
+    pub group-at : g < b → GroupAt t (g * 16) y v d
+    group-at h =
+        record {
+          in-range = q .in-range;
+          sides = q .sides;
+          column = omega (arith, q .columns, width-le facts);
+          row = omega (arith, q .row, height-le facts);
+          values = u .is-values;
+        }
+
+    pub across-more : g < b → (r : Counts) (m′ : List ℕ) → VisitDone m s t (g * 16) y r m′
+        → Across m₀ s t d y b m′ (g + 1) (moved v (d .leap)) (c + r .covered) (w + r .written)
+    across-more h r m′ k =
+        let x = g * 16 in
+        let e : x + 16 ≡ (g + 1) * 16 = omega arith in
+        let o = q .sides in
+        record {
+          before-end = omega arith;
+          is-values =
+              ap (λ (z : Values). moved z (d .leap)) (u .is-values)
+              ∙ (λ i.
+              record {
+                p = leap-one (first d) x y (o .of1 .leaps) i;
+                q = leap-one (second d) x y (o .of2 .leaps) i;
+                r = leap-one (third d) x y (o .of3 .leaps) i;
+              })
+              ∙ ap (λ (n : ℕ). valuesAt d n y) e;
+          is-memory =
+              k .draws .leaves
+              ∙ ap (upto (λ i. pixelDrawn t s y (x + i)) 16) (u .is-memory)
+              ∙ sym (upto-add (pixelDrawn t s y) x 16 m₀)
+              ∙ ap (λ (n : ℕ). upto (pixelDrawn t s y) n m₀) e;
+          is-covered =
+              ap₂ _+_ (u .is-covered) (k .covers)
+              ∙ sym (howMany-add (λ j. covered t s j y) x 16)
+              ∙ ap (howMany (λ j. covered t s j y)) e;
+          is-written =
+              ap₂ _+_ (u .is-written)
+              (k .draws .counts
+              ∙ howMany-same (λ i. written t s m (x + i) y) (λ i. written t s m₀ (x + i) y) 16
+              (λ i l.
+              ap (λ (n : List ℕ). written t s n (x + i) y) (u .is-memory)
+              ∙ written-left facts t m₀ refl (on (x + i) (omega (arith, q .columns))) (omega arith)))
+              ∙ sym (howMany-add (λ j. written t s m₀ j y) x 16)
+              ∙ ap (howMany (λ j. written t s m₀ j y)) e;
+        }
+
+    pub across-last : ((x : ℕ) → g * 16 ≤ x → x < width (s .size) → insideAll t (sample x y) ≡ false)
+        → RowDone m₀ s t y (record { covered = c; written = w }) m
+    unfolding rowDrawn
+    across-last out =
+        let x = g * 16 in
+        let n = width (s .size) - x in
+        let e : x + n ≡ width (s .size) = omega (arith, u .before-end, q .columns) in
+        let none : (i : ℕ) → i < n → covered t s (x + i) y ≡ false =
+        λ i l.
+        let j : x + i < width (s .size) = omega arith in
+        outside-uncovered t s (on (x + i) j) (out (x + i) (omega arith) j) in
+        record {
+          covers =
+              u .is-covered
+              ∙ tail (λ j. covered t s j y) x n none
+              ∙ ap (howMany (λ j. covered t s j y)) e;
+          writes =
+              u .is-written
+              ∙ tail (λ j. written t s m₀ j y) x n (λ i l. not-written t s m₀ (x + i) y (none i l))
+              ∙ ap (howMany (λ j. written t s m₀ j y)) e;
+          leaves =
+              u .is-memory
+              ∙ sym (upto-still (λ i. pixelDrawn t s y (x + i)) n (upto (pixelDrawn t s y) x m₀) (λ i l. pixel-still t s y (x + i) (upto (pixelDrawn t s y) x m₀) (none i l)))
+              ∙ sym (upto-add (pixelDrawn t s y) x n m₀)
+              ∙ ap (λ (k : ℕ). upto (pixelDrawn t s y) k m₀) e;
+        }
+      where
+        tail : (f : ℕ → Bool) (x n : ℕ) → ((i : ℕ) → i < n → f (x + i) ≡ false) → howMany f x ≡ howMany f (x + n)
+        tail f x n h = omega (arith, howMany-add f x n, howMany-none (λ i. f (x + i)) n h)
+
+    -- the row ends at a group from which on nothing is inside
+    pub across-ended : g < b → (r : Counts) (m′ : List ℕ) → VisitDone m s t (g * 16) y r m′
+        → ((k : ℕ) → leafInside t (g * 16) y k ≡ false)
+        → RowDone m₀ s t y (record { covered = c; written = w }) m′
+    across-ended h r m′ k out =
+        let x = g * 16 in
+        let still : m′ ≡ m =
+        k .draws .leaves
+        ∙ stretch-still s t x y m 16
+        (λ i l. outside-uncovered t s (on (x + i) (omega (arith, q .columns))) (out i)) in
+        let done : RowDone m₀ s t y (record { covered = c; written = w }) m =
+        across-last
+        (λ j a l.
+        let i : x + (j - x) ≡ j = omega arith in
+        subst (λ (z : ℕ). insideAll t (sample z y) ≡ false) i (out (j - x))) in
+        record { covers = done .covers; writes = done .writes; leaves = still ∙ done .leaves }

@@ -1,0 +1,141 @@
+-- The loop's invariant is `Across`: what holds before group g. Its laws are the loop's needs.
+use Prim.Native.Nat.{ℕ, _+_, _*_, _-_, _≤_, _<_}
+use mathlib.Core.Path.{_≡_, refl, sym, _∙_, ap, subst}
+use mathlib.Core.List.{List}
+use native.Mathlib.Omega.{arith}
+use lib.ListN.{length}
+use Rattle.rules.specs.Triangles.{covered, written}
+use Rattle.rules.proofs.Turns.{howMany-le}
+use Rattle.rules.proofs.Pixels.{sound-facts, width-le}
+use Rattle.cover.specs.declared.Values.{Values}
+use Rattle.cover.specs.Mask.{valuesAt, moved}
+use Rattle.draw.proofs.Rowed.{Across, across-first, across-more, across-last, across-ended, group-on, group-at, length-across}
+use Rattle.draw.proofs.rows.row.Statement.{statement}
+use Rattle.draw.proofs.rows.row.Tie as tie
+
+abbrev Inv-loop : tie.InvT-loop
+Inv-loop ram₀ s t d y from to g₀ v₀ covered₀ written₀ ram g v covered written = Across ram₀ s t d y to ram g v covered written
+
+abbrev μ-loop : tie.MeasureT-loop
+μ-loop ram₀ s t d y from to g₀ v₀ covered₀ written₀ ram g v covered written = to - g
+
+mul-values-at : tie.Need-mul-values-at Inv-loop μ-loop
+mul-values-at c = omega (arith, c .before .pre .ordered, c .before .pre .columns)
+
+values-at-requires : tie.Need-values-at-requires Inv-loop μ-loop
+values-at-requires c κs = tt
+
+loop-holds : tie.Need-loop-holds Inv-loop μ-loop
+loop-holds c =
+    let q = c .before .before in
+    let a = q .args in
+    subst (λ (v : Values). Across (a .ram .now) (a .s) (a .t) (a .d) (a .y) (a .to) (a .ram .now) (a .from) v 0 0)
+    (sym (c .values-at .ensures))
+    (across-first (a .ram .now) (a .s) (a .t) (a .d) (a .y) (a .from) (a .to) (q .pre))
+
+mul-visit : tie.Need-mul-visit Inv-loop μ-loop
+mul-visit c = omega (arith, c .before .loop-test .taken, c .before .before .before .before .before .pre .columns)
+
+visit-requires : tie.Need-visit-requires Inv-loop μ-loop
+visit-requires c κs =
+    let q = c .before .before .before .before .before in
+    let a = q .args in
+    let l = c .before .before .loop in
+    let h = c .before .loop-test .taken in
+    (group-on (a .ram .now) (a .s) (a .t) (a .d) (a .y) (a .from) (a .to) (q .pre) (l .ram) (l .g) (l .v) (l .covered) (l .written) (l .inv) h, group-at (a .ram .now) (a .s) (a .t) (a .d) (a .y) (a .from) (a .to) (q .pre) (l .ram) (l .g) (l .v) (l .covered) (l .written) (l .inv) h)
+
+at-end-requires : tie.Need-at-end-requires Inv-loop μ-loop
+at-end-requires c κs = tt
+
+same-length : tie.Need-same-length Inv-loop μ-loop
+same-length c =
+    let q = c .before .before .before .before .before .before .before .before .before .before in
+    let a = q .args in
+    let l = c .before .before .before .before .before .before .before .loop in
+    c .before .before .before .before .visit .kept .0 ∙ length-across (a .ram .now) (a .s) (a .t) (a .d) (a .y) (a .from) (a .to) (q .pre) (l .ram) (l .g) (l .v) (l .covered) (l .written) (l .inv)
+
+returns : tie.Need-returns Inv-loop μ-loop
+returns c =
+    let q = c .before .before .before .before .before .before .before .before .before .before in
+    let a = q .args in
+    let l = c .before .before .before .before .before .before .before .loop in
+    let h = c .before .before .before .before .before .before .loop-test .taken in
+    let w = c .before .before .before .before .visit in
+    across-ended (a .ram .now) (a .s) (a .t) (a .d) (a .y) (a .from) (a .to) (q .pre) (l .ram) (l .g) (l .v) (l .covered) (l .written) (l .inv) h (w .result) (w .last .0) (w .ensures)
+    (c .before .at-end .ensures (a .t) (l .g * 16) (a .y) (group-at (a .ram .now) (a .s) (a .t) (a .d) (a .y) (a .from) (a .to) (q .pre) (l .ram) (l .g) (l .v) (l .covered) (l .written) (l .inv) h) (c .if1 .taken))
+
+add-covered : tie.Need-add-covered Inv-loop μ-loop
+add-covered c =
+    let q = c .before .before .before .before .before .before .before .before .before .before .before in
+    let a = q .args in
+    let l = c .before .before .before .before .before .before .before .before .loop in
+    let w = c .before .before .before .before .before .visit in
+    let u = across-more (a .ram .now) (a .s) (a .t) (a .d) (a .y) (a .from) (a .to) (q .pre) (l .ram) (l .g) (l .v) (l .covered) (l .written) (l .inv) (c .before .before .before .before .before .before .before .loop-test .taken) (w .result) (w .last .0) (w .ensures) in
+    omega (arith, u .is-covered, howMany-le (λ x. covered (a .t) (a .s) x (a .y)) ((l .g + 1) * 16), c .before .before .before .before .before .before .before .loop-test .taken, q .pre .columns, width-le (sound-facts (q .pre .is-sound)))
+
+add-written : tie.Need-add-written Inv-loop μ-loop
+add-written c =
+    let q = c .before .before .before .before .before .before .before .before .before .before .before .before in
+    let a = q .args in
+    let l = c .before .before .before .before .before .before .before .before .before .loop in
+    let w = c .before .before .before .before .before .before .visit in
+    let u = across-more (a .ram .now) (a .s) (a .t) (a .d) (a .y) (a .from) (a .to) (q .pre) (l .ram) (l .g) (l .v) (l .covered) (l .written) (l .inv) (c .before .before .before .before .before .before .before .before .loop-test .taken) (w .result) (w .last .0) (w .ensures) in
+    omega (arith, u .is-written, howMany-le (λ x. written (a .t) (a .s) (a .ram .now) x (a .y)) ((l .g + 1) * 16), c .before .before .before .before .before .before .before .before .loop-test .taken, q .pre .columns, width-le (sound-facts (q .pre .is-sound)))
+
+plus-requires : tie.Need-plus-requires Inv-loop μ-loop
+plus-requires c κs = tt
+
+add-g : tie.Need-add-g Inv-loop μ-loop
+add-g c = omega (arith, c .before .before .before .before .before .before .before .before .before .before .loop-test .taken, c .before .before .before .before .before .before .before .before .before .before .before .before .before .before .pre .columns)
+
+loop-less : tie.Need-loop-less Inv-loop μ-loop
+loop-less c = omega (arith, c .before .before .before .before .before .before .before .before .before .before .loop-test .taken)
+
+loop-again : tie.Need-loop-again Inv-loop μ-loop
+loop-again c =
+    let q = c .before .before .before .before .before .before .before .before .before .before .before .before .before .before in
+    let a = q .args in
+    let l = c .before .before .before .before .before .before .before .before .before .before .before .loop in
+    let w = c .before .before .before .before .before .before .before .before .visit in
+    subst
+    (λ (v : Values). Across (a .ram .now) (a .s) (a .t) (a .d) (a .y) (a .to) (w .last .0) (l .g + 1) v (l .covered + w .result .covered) (l .written + w .result .written))
+    (sym (c .plus .ensures))
+    (across-more (a .ram .now) (a .s) (a .t) (a .d) (a .y) (a .from) (a .to) (q .pre) (l .ram) (l .g) (l .v) (l .covered) (l .written) (l .inv) (c .before .before .before .before .before .before .before .before .before .before .loop-test .taken) (w .result) (w .last .0) (w .ensures))
+
+same-length-2 : tie.Need-same-length-2 Inv-loop μ-loop
+same-length-2 c =
+    let q = c .before .before .before .before in
+    let a = q .args in
+    let l = c .before .loop in
+    length-across (a .ram .now) (a .s) (a .t) (a .d) (a .y) (a .from) (a .to) (q .pre) (l .ram) (l .g) (l .v) (l .covered) (l .written) (l .inv)
+
+returns-2 : tie.Need-returns-2 Inv-loop μ-loop
+returns-2 c =
+    let q = c .before .before .before .before in
+    let a = q .args in
+    let l = c .before .loop in
+    across-last (a .ram .now) (a .s) (a .t) (a .d) (a .y) (a .from) (a .to) (q .pre) (l .ram) (l .g) (l .v) (l .covered) (l .written) (l .inv)
+    (λ x h k. q .pre .beyond x (omega (arith, c .loop-test .left)) k)
+
+pub row-spec : {M : Type 1} → statement M
+row-spec =
+    tie.close
+    (tie.spec
+    Inv-loop
+    μ-loop
+    mul-values-at
+    values-at-requires
+    loop-holds
+    mul-visit
+    visit-requires
+    at-end-requires
+    same-length
+    returns
+    add-covered
+    add-written
+    plus-requires
+    add-g
+    loop-less
+    loop-again
+    same-length-2
+    returns-2)

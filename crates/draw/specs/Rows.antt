@@ -1,0 +1,65 @@
+-- What drawing a group, a row and a frame promises, and which groups and rows can be left out.
+use Prim.Native.Nat.{ℕ, _+_, _*_, _≤_, _<_}
+use mathlib.Core.Path.{_≡_}
+use mathlib.Core.Logic.{_⊎_}
+use mathlib.Core.Bool.{Bool, true, false}
+use mathlib.Core.List.{List}
+use Rattle.rules.specs.declared.Screen.{Screen}
+use Rattle.rules.specs.declared.Triangle.{Triangle}
+use Rattle.rules.specs.Turns.{howMany, pixels}
+use Rattle.rules.specs.Sizes.{groups, width, height, sound}
+use Rattle.rules.specs.Numbers.{verticesInRange}
+use Rattle.rules.specs.Triangles.{sample, insideAll, covered, written, rowDrawn, drawn, coveredPixels, writtenPixels}
+use Rattle.cover.specs.declared.Sides.{Sides}
+use Rattle.cover.specs.Side.{SidesOf}
+use Rattle.draw.specs.declared.Counts.{Counts}
+use Rattle.draw.specs.declared.Span.{Span}
+use Rattle.draw.specs.Leaves.{GroupDone}
+
+pub record VisitDone (m : List ℕ) (s : Screen) (t : Triangle) (x y : ℕ) (answer : Counts) (after : List ℕ) : Type 0 where
+  pub covers : answer .covered ≡ howMany (λ k. covered t s (x + k) y) 16
+  pub draws : GroupDone m s t x y (answer .written) after
+
+-- nothing of row y is inside but in the groups a to b
+pub record RowAsked (n : ℕ) (s : Screen) (t : Triangle) (d : Sides) (y a b : ℕ) : Type 0 where
+  pub is-sound : sound n s ≡ true
+  pub in-range : verticesInRange t ≡ true
+  pub sides : SidesOf t d
+  pub row : y < height (s .size)
+  pub ordered : a ≤ b
+  pub columns : b ≤ groups (s .size)
+  pub before : (x : ℕ) → x < a * 16 → insideAll t (sample x y) ≡ false
+  pub beyond : (x : ℕ) → b * 16 ≤ x → x < width (s .size) → insideAll t (sample x y) ≡ false
+
+pub record RowDone (m : List ℕ) (s : Screen) (t : Triangle) (y : ℕ) (answer : Counts) (after : List ℕ) : Type 0 where
+  pub covers : answer .covered ≡ howMany (λ x. covered t s x y) (width (s .size))
+  pub writes : answer .written ≡ howMany (λ x. written t s m x y) (width (s .size))
+  pub leaves : after ≡ rowDrawn t s y m
+
+-- what lies below the limit and outside the span lies before `first` or from `past` on
+pub record Clipped (first past limit : ℕ) (r : Span) : Type 0 where
+  pub ordered : r .from ≤ r .to
+  pub limited : r .to ≤ limit
+  pub before : (k : ℕ) → k < limit → k < r .from → (k < first) ⊎ (past ≤ k)
+  pub beyond : (k : ℕ) → k < limit → r .to ≤ k → (k < first) ⊎ (past ≤ k)
+
+pub record ColumnsTouched (t : Triangle) (n : ℕ) (r : Span) : Type 0 where
+  pub ordered : r .from ≤ r .to
+  pub limited : r .to ≤ n
+  pub before : (x y : ℕ) → x < n * 16 → x < r .from * 16 → insideAll t (sample x y) ≡ false
+  pub beyond : (x y : ℕ) → x < n * 16 → r .to * 16 ≤ x → insideAll t (sample x y) ≡ false
+
+pub record RowsTouched (t : Triangle) (n : ℕ) (r : Span) : Type 0 where
+  pub ordered : r .from ≤ r .to
+  pub limited : r .to ≤ n
+  pub before : (x y : ℕ) → y < n → y < r .from → insideAll t (sample x y) ≡ false
+  pub beyond : (x y : ℕ) → y < n → r .to ≤ y → insideAll t (sample x y) ≡ false
+
+pub record FrameAsked (n : ℕ) (s : Screen) (t : Triangle) : Type 0 where
+  pub is-sound : sound n s ≡ true
+  pub in-range : verticesInRange t ≡ true
+
+pub record FrameDone (m : List ℕ) (s : Screen) (t : Triangle) (answer : Counts) (after : List ℕ) : Type 0 where
+  pub covers : answer .covered ≡ coveredPixels t s
+  pub writes : answer .written ≡ writtenPixels t s m
+  pub leaves : after ≡ drawn t s m

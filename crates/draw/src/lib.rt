@@ -1,0 +1,27 @@
+// Drawing a triangle on a screen in lent memory: pixel, group of sixteen, row, frame, call.
+pub mod frames;
+pub mod leaves;
+pub mod planes;
+pub mod rows;
+pub mod spans;
+pub mod triangles;
+
+// The values of the four planes at a pixel.
+pub struct Tints {
+    pub depth: u32,
+    pub red: u32,
+    pub green: u32,
+    pub blue: u32,
+}
+
+// How many pixels were covered and how many written.
+pub struct Counts {
+    pub covered: u32,
+    pub written: u32,
+}
+
+// From `from` up to but not including `to`.
+pub struct Span {
+    pub from: u32,
+    pub to: u32,
+}

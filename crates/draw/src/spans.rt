@@ -1,0 +1,50 @@
+// Which rows and which groups of columns a triangle can touch on a screen.
+use crate::Span;
+use cover::extent::first_touched;
+use cover::extent::past_touched;
+use rules::Triangle;
+ghost use mathlib.Core.Path.{_≡_};
+ghost use mathlib.Core.Bool.{true};
+ghost use Rattle.rules.specs.Numbers.{verticesInRange};
+ghost use Rattle.draw.specs.Rows.{Clipped, ColumnsTouched, RowsTouched};
+
+// The places from `first` to `past`, as far as they are below `limit`.
+fn clipped(first: u32, past: u32, limit: u32) -> Span
+    ensures { λ r. ⌜ Clipped first past limit r ⌝ }
+{
+    if past <= first {
+        return Span { from: 0, to: 0 };
+    }
+    if limit <= first {
+        return Span { from: 0, to: 0 };
+    }
+    if past <= limit {
+        return Span {
+            from: first,
+            to: past,
+        };
+    }
+    Span {
+        from: first,
+        to: limit,
+    }
+}
+
+// The groups of sixteen columns.
+pub fn touched_groups(t: Triangle, groups: u32) -> Span
+    requires { ⌜ verticesInRange t ≡ true ⌝ }
+    ensures { λ r. ⌜ ColumnsTouched t groups r ⌝ }
+{
+    let first = first_touched(t.x1, t.x2, t.x3);
+    let past = past_touched(t.x1, t.x2, t.x3);
+    clipped(first / 16, (past + 15) / 16, groups)
+}
+
+pub fn touched_rows(t: Triangle, height: u32) -> Span
+    requires { ⌜ verticesInRange t ≡ true ⌝ }
+    ensures { λ r. ⌜ RowsTouched t height r ⌝ }
+{
+    let first = first_touched(t.y1, t.y2, t.y3);
+    let past = past_touched(t.y1, t.y2, t.y3);
+    clipped(first, past, height)
+}

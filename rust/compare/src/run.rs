@@ -1,0 +1,135 @@
+//! Counts comparisons and mismatches, group by group, and reports them.
+
+use crate::case::Case;
+use crate::check::{check, Answer, Memories};
+use crate::rng::Rng;
+use crate::shrink::shrink;
+use crate::subject::Subject;
+
+pub struct Run {
+    pub subject: Subject,
+    pub seed: u64,
+    /// Calls the group of random calls makes at least.
+    pub calls: u64,
+    /// Minutes the group of random calls takes at least.
+    pub minutes: u64,
+    /// Print each case before it is run.
+    pub trace: bool,
+    /// Print neither group lines nor mismatches.
+    pub quiet: bool,
+    /// Mismatches shown in full in each group.
+    pub shown_at_most: u64,
+    pub memories: Memories,
+    pub comparisons: u64,
+    pub mismatches: u64,
+    /// Names of the groups in which something mismatched.
+    pub caught_by: Vec<String>,
+    group: String,
+    shown: u64,
+    note: String,
+}
+
+impl Run {
+    pub fn new(subject: Subject, seed: u64) -> Run {
+        Run {
+            subject,
+            seed,
+            calls: 100_000,
+            minutes: 0,
+            trace: false,
+            quiet: false,
+            shown_at_most: 3,
+            memories: Memories::default(),
+            comparisons: 0,
+            mismatches: 0,
+            caught_by: Vec::new(),
+            group: String::new(),
+            shown: 0,
+            note: String::new(),
+        }
+    }
+
+    /// Runs one group and prints its line.
+    pub fn group(&mut self, name: &str, body: impl FnOnce(&mut Run, &mut Rng)) {
+        let before = (self.comparisons, self.mismatches);
+        self.group = name.to_string();
+        self.shown = 0;
+        self.note.clear();
+        let mut rng = Rng::for_group(self.seed, name);
+        body(self, &mut rng);
+        let compared = self.comparisons - before.0;
+        let mismatched = self.mismatches - before.1;
+        if mismatched > 0 {
+            self.caught_by.push(name.to_string());
+        }
+        if !self.quiet {
+            let note = if self.note.is_empty() { String::new() } else { format!(" ({})", self.note) };
+            println!("{name}: {compared} comparisons, {mismatched} mismatches{note}");
+        }
+    }
+
+    /// Words added to the group's line.
+    pub fn note(&mut self, note: String) {
+        self.note = note;
+    }
+
+    /// Runs a case; every call in it is one comparison. Hands back the
+    /// subject's answers if none differed.
+    pub fn case(&mut self, case: &Case) -> Option<Vec<Answer>> {
+        if self.trace {
+            eprintln!("{case}");
+        }
+        let checked = check(self.subject, case, &mut self.memories);
+        self.comparisons += checked.answers.len() as u64;
+        match checked.difference {
+            None => Some(checked.answers),
+            Some(difference) => {
+                if self.mismatch() {
+                    let smallest = shrink(self.subject, case, &mut self.memories);
+                    let again = check(self.subject, &smallest, &mut self.memories).difference;
+                    let (step, text) = again.map_or((difference.step, difference.text), |d| (d.step, d.text));
+                    let option = self.subject.option();
+                    println!("mismatch in \"{}\", seed {}, found with:", self.group, self.seed);
+                    println!("  compare{option} --case '{case}'");
+                    println!("the smallest found, call {} of {}:", step + 1, smallest.steps.len());
+                    println!("  compare{option} --case '{smallest}'");
+                    print!("{text}");
+                }
+                None
+            }
+        }
+    }
+
+    /// Runs a case and also wants what its last call answers: a number, and
+    /// the count of covered pixels where one is given.
+    pub fn case_wants(&mut self, case: &Case, number: u32, covered: Option<u32>, written: Option<u32>) {
+        let Some(answers) = self.case(case) else { return };
+        let last = answers[answers.len() - 1];
+        let holds = last.number == number
+            && covered.is_none_or(|count| last.covered == count)
+            && written.is_none_or(|count| last.written == count);
+        let option = self.subject.option();
+        self.holds(holds, || {
+            format!(
+                "wanted number {number}, covered {covered:?}, written {written:?}; answered {}, {}, {}\n  compare{option} --case '{case}'",
+                last.number, last.covered, last.written
+            )
+        });
+    }
+
+    /// One more comparison: something document 01 says outright.
+    pub fn holds(&mut self, holds: bool, words: impl FnOnce() -> String) {
+        self.comparisons += 1;
+        if !holds && self.mismatch() {
+            println!("mismatch in \"{}\", seed {}:", self.group, self.seed);
+            println!("  {}", words());
+        }
+    }
+
+    /// Counts a mismatch; tells whether to show it.
+    fn mismatch(&mut self) -> bool {
+        self.mismatches += 1;
+        self.shown += 1;
+        !self.quiet && self.shown <= self.shown_at_most
+    }
+}

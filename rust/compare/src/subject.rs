@@ -1,0 +1,168 @@
+//! What is compared with the second program: the engine, or (to show that the
+//! comparison can fail) a deliberately wrong variant of the second program.
+
+use crate::case::{second_screen, second_triangle};
+use merikohin::{Drawn, Screen, Triangle};
+
+/// The slips a wrong variant can have.
+#[derive(Clone, Copy, Debug, PartialEq, Eq)]
+pub enum Slip {
+    /// An edge value of zero counts as inside for every edge.
+    Ties,
+    /// Depths are compared as signed half-words.
+    SignedDepth,
+    /// One pixel too many is counted as covered when some group of 16 pixels
+    /// is partly covered.
+    Count,
+    /// A refused clear or triangle changes a byte.
+    RefusalWrites,
+}
+
+pub const SLIPS: [(&str, Slip); 4] = [
+    ("ties", Slip::Ties),
+    ("signed-depth", Slip::SignedDepth),
+    ("count", Slip::Count),
+    ("refusal-writes", Slip::RefusalWrites),
+];
+
+#[derive(Clone, Copy, Debug, PartialEq, Eq)]
+pub enum Subject {
+    Engine,
+    Broken(Slip),
+}
+
+/// What a row call was seen to answer.
+#[derive(Clone, Copy, Debug, PartialEq, Eq)]
+pub struct RowSeen {
+    pub number: u32,
+    pub start: u64,
+    pub length: u64,
+    /// Where the slice handed back begins, counted in bytes from the address
+    /// of the RAM lent, and its length; none if start and length point outside.
+    pub part: Option<(usize, usize)>,
+}
+
+pub fn part_of(ram: &[u8], part: &[u8]) -> (usize, usize) {
+    ((part.as_ptr() as usize).wrapping_sub(ram.as_ptr() as usize), part.len())
+}
+
+impl Subject {
+    pub fn name(self) -> &'static str {
+        match self {
+            Subject::Engine => "engine",
+            Subject::Broken(_) => "broken",
+        }
+    }
+
+    /// The words of the command line that choose this subject.
+    pub fn option(self) -> String {
+        match self {
+            Subject::Engine => String::new(),
+            Subject::Broken(slip) => {
+                let found = SLIPS.iter().find(|(_, known)| *known == slip);
+                found.map_or(String::new(), |(name, _)| format!(" --broken {name}"))
+            }
+        }
+    }
+
+    pub fn clear(self, ram: &mut [u8], s: Screen, colour: u16, depth: u16) -> u32 {
+        match self {
+            Subject::Engine => merikohin::clear(ram, s, colour, depth),
+            Subject::Broken(slip) => {
+                let number = second::clear(ram, second_screen(s), colour, depth);
+                if number != 0 {
+                    refused(slip, ram);
+                }
+                number
+            }
+        }
+    }
+
+    pub fn draw(self, ram: &mut [u8], s: Screen, t: Triangle) -> Drawn {
+        match self {
+            Subject::Engine => merikohin::draw(ram, s, t),
+            Subject::Broken(slip) => broken_draw(slip, ram, second_screen(s), &second_triangle(&t)),
+        }
+    }
+
+    pub fn row_check(self, ram: &[u8], s: Screen, row: u32) -> u32 {
+        match self {
+            Subject::Engine => merikohin::row_check(ram, s, row),
+            Subject::Broken(_) => second::row_check(ram, second_screen(s), row),
+        }
+    }
+
+    pub fn row(self, ram: &[u8], s: Screen, row: u32) -> RowSeen {
+        match self {
+            Subject::Engine => {
+                let raw = merikohin::row_part(ram, s, row);
+                let end = u128::from(raw.start) + u128::from(raw.length);
+                let part = if end <= ram.len() as u128 {
+                    let (number, part) = merikohin::row(ram, s, row);
+                    (number == raw.number).then(|| part_of(ram, part))
+                } else {
+                    None
+                };
+                RowSeen { number: raw.number, start: raw.start, length: raw.length, part }
+            }
+            Subject::Broken(_) => {
+                let (number, part) = second::row(ram, second_screen(s), row);
+                let (start, length) = part_of(ram, part);
+                RowSeen { number, start: start as u64, length: length as u64, part: Some((start, length)) }
+            }
+        }
+    }
+}
+
+fn refused(slip: Slip, ram: &mut [u8]) {
+    if slip == Slip::RefusalWrites {
+        if let Some(last) = ram.last_mut() {
+            *last ^= 1;
+        }
+    }
+}
+
+/// The second program's drawer, with one slip.
+fn broken_draw(slip: Slip, ram: &mut [u8], screen: second::Screen, t: &second::Triangle) -> Drawn {
+    let number = second::draw_number(ram.len(), screen, t);
+    if number != 0 {
+        refused(slip, ram);
+        return Drawn { number, covered: 0, written: 0 };
+    }
+    let covers = |x: i128, y: i128| match slip {
+        Slip::Ties => t.edges().iter().all(|&(from, to)| second::edge_value(from, to, 8 * x, 8 * y) >= 0),
+        _ => second::covers(t, x, y),
+    };
+    let (mut covered, mut written, mut partly) = (0, 0, false);
+    for y in 0..screen.height() {
+        for group in 0..screen.groups() {
+            let mut in_group = 0;
+            for x in 16 * group..16 * group + 16 {
+                if !covers(x, y) {
+                    continue;
+                }
+                in_group += 1;
+                let place = (y * screen.width() + x) * 2;
+                let depth_place = i128::from(screen.depth_start) + place;
+                let depth = second::depth_at(t, x, y);
+                let stored = second::half_word(ram, depth_place);
+                let passes = match slip {
+                    Slip::SignedDepth => depth as u16 as i16 <= stored as u16 as i16,
+                    _ => depth <= stored,
+                };
+                if passes {
+                    written += 1;
+                    let colour_place = i128::from(screen.colour_start) + place;
+                    second::set_half_word(ram, colour_place, second::colour_at(t, x, y));
+                    second::set_half_word(ram, depth_place, depth);
+                }
+            }
+            covered += in_group;
+            partly |= in_group > 0 && in_group < 16;
+        }
+    }
+    if slip == Slip::Count && partly {
+        covered += 1;
+    }
+    Drawn { number: 0, covered, written }
+}
