@@ -208,13 +208,6 @@ module _ (e : Edge) (d : Side) (w : EdgeWithin e) (o : SideOf e d) where
           let i : x + k + (15 - k) ≡ x + 15 = omega arith in
           within x k y (≤ℤ-trans (nonNeg-true (sided e (x + 15) y) n) (rw i at r))
 
-  -- where the edge falls to the right and a pixel is outside, so is all to its right
-  pub ends : (x y : ℕ) → x ≤ 640 → y ≤ 512 → keeps (d .a) ≡ false → keeps (sideAt d x y) ≡ false
-      → (k : ℕ) → inside e (sample (x + k) y) ≡ false
-  ends x y hx hy s h k =
-      outside x k y
-      (≤ℤ-<ℤ-trans (falls e x k y (sym keeps-slope ∙ s)) (nonNeg-false (sided e x y) (sym (keeps-sided x y hx hy) ∙ h)))
-
 -- ---- the three edges of a triangle whose vertices are in range
 
 pub edges-in-range : (t : Triangle) → verticesInRange t ≡ true

@@ -14,7 +14,7 @@ use Rattle.cover.specs.declared.Values.{Values}
 use Rattle.cover.specs.Side.{sideAt, first, second, third}
 use Rattle.cover.specs.Mask.{keeps, allKept, valuesAt, moved, after, leafInside, GroupAt, maskOf, keptAfter}
 use Rattle.cover.proofs.Mask.{mask-same}
-use Rattle.cover.proofs.Along.{EdgeWithin, edge-within, edges-in-range, and-true, step-right, keeps-inside, misses, fills, ends}
+use Rattle.cover.proofs.Along.{EdgeWithin, edge-within, edges-in-range, and-true, step-right, keeps-inside, misses, fills}
 
 -- ---- three tests
 
@@ -138,23 +138,3 @@ module _ (t : Triangle) (x y : ℕ) (v : Values) (d : Sides) (g : GroupAt t x y 
       (both (fills (edge1 t) (first d) w1 (g .sides .of1) x y (g .column) (g .row) (b .0) k hk)
       (fills (edge2 t) (second d) w2 (g .sides .of2) x y (g .column) (g .row) (b .1) k hk))
       (fills (edge3 t) (third d) w3 (g .sides .of3) x y (g .column) (g .row) (c .1) k hk)
-
-  -- the rest of the row is out, by each edge
-  module _ (k : ℕ) where
-    c : x ≤ 640
-    c = omega (arith, g .column)
-
-    pub ended1 : keeps (d .a .p) ≡ false → keeps (v .p) ≡ false → leafInside t x y k ≡ false
-    ended1 a e =
-        out1 t (sample (x + k) y)
-        (ends (edge1 t) (first d) w1 (g .sides .of1) x y c (g .row) a (ap (λ (n : Values). keeps (n .p)) (sym (g .values)) ∙ e) k)
-
-    pub ended2 : keeps (d .a .q) ≡ false → keeps (v .q) ≡ false → leafInside t x y k ≡ false
-    ended2 a e =
-        out2 t (sample (x + k) y)
-        (ends (edge2 t) (second d) w2 (g .sides .of2) x y c (g .row) a (ap (λ (n : Values). keeps (n .q)) (sym (g .values)) ∙ e) k)
-
-    pub ended3 : keeps (d .a .r) ≡ false → keeps (v .r) ≡ false → leafInside t x y k ≡ false
-    ended3 a e =
-        out3 t (sample (x + k) y)
-        (ends (edge3 t) (third d) w3 (g .sides .of3) x y c (g .row) a (ap (λ (n : Values). keeps (n .r)) (sym (g .values)) ∙ e) k)

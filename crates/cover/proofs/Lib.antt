@@ -6,3 +6,4 @@ pub mod Leaves
 pub mod Outside
 pub mod Raised
 pub mod Large
+pub mod Unbroken

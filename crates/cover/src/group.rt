@@ -4,7 +4,6 @@ use crate::Values;
 use words::affine32;
 use words::sum32;
 ghost use mathlib.Core.Path.{_≡_};
-ghost use mathlib.Core.Bool.{true, false};
 ghost use Prim.Native.Nat.{ℕ};
 ghost use Rattle.rules.specs.declared.Triangle.{Triangle};
 ghost use Rattle.rules.specs.Turns.{bit};
@@ -79,27 +78,4 @@ pub fn group_mask(v: Values, d: Sides) -> u16
     }
     let right = d.a;
     leaf_by_leaf(v, right)
-}
-
-// Whether some edge falls to the right and is already outside: then the rest of the row is.
-pub fn row_ended(v: Values, d: Sides) -> bool
-    ensures { λ r. ⌜ ((t : Triangle) (x y : ℕ) → GroupAt t x y v d → r ≡ true → (k : ℕ) → leafInside t x y k ≡ false) ⌝ }
-{
-    let a = d.a;
-    if 2147483648 <= a.p {
-        if 2147483648 <= v.p {
-            return true;
-        }
-    }
-    if 2147483648 <= a.q {
-        if 2147483648 <= v.q {
-            return true;
-        }
-    }
-    if 2147483648 <= a.r {
-        if 2147483648 <= v.r {
-            return true;
-        }
-    }
-    false
 }

@@ -1,53 +1,44 @@
 -- The loop over a group's leaves: what holds after k of them, that it holds at the first named leaf, that one leaf more keeps it, and that
--- with nothing left of the mask the whole group is drawn.
-use Prim.Native.Nat.{ℕ, zero, suc, _+_, _*_, _^_, _-_, _%_, _≤_, _<_}
+-- with none left the whole group is drawn. The leaves still to come have no gap, so the next one is among them.
+use Prim.Native.Nat.{ℕ, zero, suc, _+_, _*_, _-_, _≤_, _<_}
 use mathlib.Core.Path.{_≡_, refl, sym, _∙_, ap, ap₂, subst}
 use mathlib.Core.Logic.{_≢_}
 use mathlib.Core.Bool.{Bool, true, false, _&&_}
 use mathlib.Core.List.{List}
 use native.Mathlib.Omega.{arith}
-use lib.Count.{leadingZeros, leading-le}
-use lib.Dec.{ltb, leb}
+use lib.Count.{ones, leadingZeros}
+use lib.Dec.{leb}
 use lib.ListN.{length}
-use borrow.Author.Tests.{lt-ltb, le-ltb}
 use Rattle.rules.specs.declared.Screen.{Screen}
 use Rattle.rules.specs.declared.Triangle.{Triangle}
 use Rattle.rules.specs.Turns.{upto, bit, howMany, choose}
 use Rattle.rules.specs.Sizes.{width, height, colourAt, depthAt, half, putHalf, putPixel}
 use Rattle.rules.specs.Triangles.{topHalf, packed, triangleDepth, triangleColour, covered, written, pixelDrawn}
-use Rattle.rules.proofs.Turns.{upto-more, upto-add, upto-still, howMany-more, howMany-add, howMany-none}
+use Rattle.rules.proofs.Turns.{upto-more, upto-add, upto-still, howMany-more, howMany-add, howMany-none, howMany-some, howMany-rest}
 use Rattle.rules.proofs.Pixels.{Sound, On, sound-facts}
 use Rattle.cover.specs.Mask.{maskOf}
-use Rattle.cover.proofs.Mask.{mask-same, mask-small}
+use Rattle.cover.proofs.Mask.{mask-ones}
+use Rattle.cover.proofs.Unbroken.{unbroken}
 use Rattle.draw.specs.declared.Tints.{Tints}
 use Rattle.draw.specs.Planes.{tintsAt, tintSteps, tintsMoved}
 use Rattle.draw.specs.Leaves.{passes, LeafDone, GroupOn, GroupAsked, GroupDone}
 use Rattle.draw.proofs.Affine.{tints-right}
-use Rattle.draw.proofs.Rest.{from, rest, rest-top, rest-next, rest-none, mask-shifted, mask-zero, leading-named}
+use Rattle.draw.proofs.Named.{leading-named, first-named}
 use Rattle.draw.proofs.Stretch.{not-written, pixel-still, stretch, length-stretch, written-stretch}
-
--- leaf j, and none from 16 on
-abbrev pub leafOn : Triangle → Screen → ℕ → ℕ → ℕ → Bool
-leafOn t s x y j = ltb j 16 && covered t s (x + j) y
 
 pub record Turn (m₀ : List ℕ) (s : Screen) (t : Triangle) (x y : ℕ) (m : List ℕ) (left k : ℕ) (v : Tints) (w : ℕ) : Type 0 where
   pub leaves : k ≤ 16
-  pub is-left : left ≡ rest (leafOn t s x y) k
+  pub is-left : left + howMany (λ i. covered t s (x + i) y) k ≡ howMany (λ i. covered t s (x + i) y) 16
+  pub is-next : left ≢ 0 → covered t s (x + k) y ≡ true
   pub is-tints : v ≡ tintsAt t (x + k) y
   pub is-memory : m ≡ stretch t s y x k m₀
   pub is-written : w ≡ howMany (λ i. written t s m₀ (x + i) y) k
 
 module _ (s : Screen) (t : Triangle) (x y : ℕ) where
-  past : (i : ℕ) → 16 ≤ i → leafOn t s x y i ≡ false
-  past i h = rw (le-ltb i 16 h)
+  abbrev on-leaf? : ℕ → Bool
+  on-leaf? i = covered t s (x + i) y
 
-  leaf-is : (k : ℕ) → k < 16 → leafOn t s x y k ≡ covered t s (x + k) y
-  leaf-is k h = rw (lt-ltb k 16 h)
-
-  named : maskOf (λ k. covered t s (x + k) y) 16 ≡ maskOf (leafOn t s x y) 16
-  named = mask-same (λ k. covered t s (x + k) y) (leafOn t s x y) 16 (λ k h. sym (leaf-is k h))
-
-  -- before a stretch of leaves that are not covered
+  -- a stretch of leaves that are not covered
   module _ (m : List ℕ) (n : ℕ) (none : (i : ℕ) → i < n → covered t s (x + i) y ≡ false) where
     pub stretch-still : stretch t s y x n m ≡ m
     stretch-still = upto-still (λ k. pixelDrawn t s y (x + k)) n m (λ i h. pixel-still t s y (x + i) m (none i h))
@@ -55,40 +46,33 @@ module _ (s : Screen) (t : Triangle) (x y : ℕ) where
     pub none-written : howMany (λ i. written t s m (x + i) y) n ≡ 0
     none-written = howMany-none (λ i. written t s m (x + i) y) n (λ i h. not-written t s m (x + i) y (none i h))
 
-  pub turn-first : (m : List ℕ) (mask : ℕ) → mask ≡ maskOf (λ k. covered t s (x + k) y) 16
-      → Turn m s t x y m (mask * 2 ^ leadingZeros 16 mask % 4294967296) (leadingZeros 16 mask) (tintsAt t (x + leadingZeros 16 mask) y) 0
-  turn-first m mask e = subst (λ (n : ℕ). Turn m s t x y m (n * 2 ^ leadingZeros 16 n % 4294967296) (leadingZeros 16 n) (tintsAt t (x + leadingZeros 16 n) y) 0) (sym (e ∙ named)) go
+  pub turn-first : (m : List ℕ) (mask : ℕ) → mask ≡ maskOf on-leaf? 16 → mask ≢ 0
+      → Turn m s t x y m (ones mask) (leadingZeros 16 mask) (tintsAt t (x + leadingZeros 16 mask) y) 0
+  turn-first m mask e h =
+      subst (λ (n : ℕ). Turn m s t x y m (ones n) (leadingZeros 16 n) (tintsAt t (x + leadingZeros 16 n) y) 0) (sym e)
+      (record {
+        leaves = omega (arith, some .0);
+        is-left = omega (arith, mask-ones on-leaf? 16, howMany-none on-leaf? skip none);
+        is-next = λ z. some .1;
+        is-tints = refl;
+        is-memory = sym (stretch-still m skip none);
+        is-written = sym (none-written m skip none);
+      })
     where
-      f : ℕ → Bool
-      f = leafOn t s x y
-
       skip : ℕ
-      skip = leadingZeros 16 (maskOf f 16)
+      skip = leadingZeros 16 (maskOf on-leaf? 16)
 
-      few : skip ≤ 16
-      few = leading-le 16 (maskOf f 16)
+      some : (skip < 16) × (on-leaf? skip ≡ true)
+      some = first-named on-leaf? (λ z. h (e ∙ z))
 
-      none : (i : ℕ) → i < skip → covered t s (x + i) y ≡ false
-      none i h = sym (leaf-is i (omega (arith, few))) ∙ leading-named f i h
-
-      go : Turn m s t x y m (maskOf f 16 * 2 ^ skip % 4294967296) skip (tintsAt t (x + skip) y) 0
-      go =
-          let a : maskOf f 16 * 2 ^ skip ≡ rest f skip = mask-shifted f past skip (leading-named f) in
-          let b : rest f skip < 65536 = mask-small (from f skip) 16 (omega arith) in
-          record {
-            leaves = few;
-            is-left = omega arith;
-            is-tints = refl;
-            is-memory = sym (stretch-still m skip none);
-            is-written = sym (none-written m skip none);
-          }
+      none : (i : ℕ) → i < skip → on-leaf? i ≡ false
+      none i l = leading-named on-leaf? i l
 
   module _ (m₀ m : List ℕ) (left k : ℕ) (v : Tints) (w : ℕ) (u : Turn m₀ s t x y m left k v w) where
     pub still-left : left ≢ 0 → k < 16
-    still-left h = omega-of (λ (e : k ≡ 16). h (u .is-left ∙ ap (rest (leafOn t s x y)) e ∙ rest-none (leafOn t s x y) past))
-      where
-        omega-of : (k ≡ 16 → ⊥) → k < 16
-        omega-of g = let n : k ≢ 16 = g in omega (arith, u .leaves)
+    still-left h =
+        let (j, a, b, e) = howMany-some on-leaf? k 16 (omega (arith, u .is-left)) in
+        omega arith
 
     module _ (l : ℕ) (e : length m₀ ≡ l) (o : GroupOn l s x y) where
       facts : Sound l s
@@ -100,11 +84,11 @@ module _ (s : Screen) (t : Triangle) (x y : ℕ) where
       pub length-now : length m ≡ l
       length-now = ap length (u .is-memory) ∙ length-stretch t s y x k m₀ ∙ e
 
-      -- the test of the code is the definition's
-      judged : k < 16 → passes m left (depthAt s (x + k) y) v ≡ written t s m (x + k) y
+      -- a covered leaf is written where the code's test says so
+      judged : left ≢ 0 → passes m (depthAt s (x + k) y) v ≡ written t s m (x + k) y
       unfolding written triangleDepth
       judged h =
-          ap₂ _&&_ (ap (leb 32768) (u .is-left) ∙ rest-top (leafOn t s x y) k ∙ leaf-is k h)
+          rw (u .is-next h)
           (ap (λ (z : Tints). leb (topHalf (z .depth)) (half m (depthAt s (x + k) y))) (u .is-tints))
 
       put-is : (b : Bool)
@@ -115,28 +99,39 @@ module _ (s : Screen) (t : Triangle) (x y : ℕ) where
           ap (λ (z : Tints). choose b (putHalf (putHalf m (colourAt s (x + k) y) (packed (z .red) (z .green) (z .blue))) (depthAt s (x + k) y) (topHalf (z .depth))) m)
           (u .is-tints)
 
-      pub turn-more : k < 16 → (r : ℕ) (m′ : List ℕ) → LeafDone m left (colourAt s (x + k) y) (depthAt s (x + k) y) v r m′
-          → Turn m₀ s t x y m′ (left * 2 % 65536) (k + 1) (tintsMoved v (tintSteps t)) (w + r)
+      pub turn-more : left ≢ 0 → (r : ℕ) (m′ : List ℕ) → LeafDone m (colourAt s (x + k) y) (depthAt s (x + k) y) v w r m′
+          → Turn m₀ s t x y m′ (left - 1) (k + 1) (tintsMoved v (tintSteps t)) r
       unfolding pixelDrawn
       turn-more h r m′ d =
           let i : x + k + 1 ≡ x + (k + 1) = omega arith in
+          let less : k < 16 = still-left h in
+          let one : bit (on-leaf? k) ≡ 1 = ap bit (u .is-next h) in
+          let rest : left - 1 + howMany on-leaf? (k + 1) ≡ howMany on-leaf? 16 =
+          omega (arith, u .is-left, howMany-more on-leaf? k) in
           record {
             leaves = omega arith;
-            is-left = ap (λ (n : ℕ). n * 2 % 65536) (u .is-left) ∙ rest-next (leafOn t s x y) k (past (k + 16) (omega arith));
-            is-tints = ap (λ (z : Tints). tintsMoved z (tintSteps t)) (u .is-tints) ∙ tints-right t (x + k) y ∙ ap (λ (n : ℕ). tintsAt t n y) i;
+            is-left = rest;
+            is-next =
+                λ n.
+                let (j, a, b, c) = howMany-some on-leaf? (k + 1) 16 (omega arith) in
+                unbroken t s (x + k) (x + (k + 1)) (x + j) y (omega arith) (omega arith) (u .is-next h) c;
+            is-tints =
+                ap (λ (z : Tints). tintsMoved z (tintSteps t)) (u .is-tints)
+                ∙ tints-right t (x + k) y
+                ∙ ap (λ (n : ℕ). tintsAt t n y) i;
             is-memory =
                 d .leaves
-                ∙ put-is (passes m left (depthAt s (x + k) y) v)
+                ∙ put-is (passes m (depthAt s (x + k) y) v)
                 ∙ ap (λ (b : Bool). choose b (putPixel s (x + k) y (triangleColour t (x + k) y) (triangleDepth t (x + k) y) m) m) (judged h)
                 ∙ ap (pixelDrawn t s y (x + k)) (u .is-memory)
                 ∙ sym (upto-more (λ j. pixelDrawn t s y (x + j)) k m₀);
             is-written =
-                ap₂ _+_ (u .is-written)
-                (d .counts
-                ∙ ap bit
+                d .counts
+                ∙ ap₂ _+_ (u .is-written)
+                (ap bit
                 (judged h
                 ∙ ap (λ (n : List ℕ). written t s n (x + k) y) (u .is-memory)
-                ∙ written-stretch t s facts m₀ e y x k k (on-leaf h) (omega arith)))
+                ∙ written-stretch t s facts m₀ e y x k k (on-leaf less) (omega arith)))
                 ∙ sym (howMany-more (λ j. written t s m₀ (x + j) y) k);
           }
 
@@ -144,9 +139,7 @@ module _ (s : Screen) (t : Triangle) (x y : ℕ) where
     turn-last z = record { counts = u .is-written ∙ same-count; leaves = u .is-memory ∙ same-memory }
       where
         none : (i : ℕ) → i < 16 - k → covered t s (x + (k + i)) y ≡ false
-        none i h =
-            sym (leaf-is (k + i) (omega arith))
-            ∙ mask-zero (from (leafOn t s x y) k) 16 (sym (u .is-left) ∙ z) i (omega arith)
+        none i h = howMany-rest on-leaf? k 16 (omega (arith, u .is-left)) (k + i) (omega arith) (omega arith)
 
         sixteen : k + (16 - k) ≡ 16
         sixteen = omega (arith, u .leaves)

@@ -1,8 +1,8 @@
 pub mod Affine
-pub mod Rest
+pub mod Named
 pub mod Stretch
 pub mod Grouped
-pub mod Rowed
 pub mod Touch
-pub mod Framed
 pub mod Refused
+pub mod Rowed
+pub mod Framed

@@ -1,33 +1,35 @@
--- The loop over a row's groups: what holds before group g, that it holds at the first touched group, that one group more keeps it, and that
--- with nothing inside from g on the whole row is drawn.
+-- The loop over a row's groups: what holds before group g, that it holds at the first touched group, that one group more keeps it, and that the
+-- row is drawn once its groups are done or, since its covered pixels have no gap, once a group ends the run.
 use Prim.Native.Nat.{ℕ, zero, suc, _+_, _*_, _-_, _%_, _≤_, _<_}
 use mathlib.Core.Path.{_≡_, refl, sym, _∙_, ap, ap₂, subst}
-use mathlib.Core.Bool.{Bool, true, false, _&&_}
+use mathlib.Core.Bool.{Bool, true, false, not, _&&_}
 use mathlib.Core.List.{List}
 use native.Mathlib.Omega.{arith}
-use lib.Count.{ones}
+use native.Mathlib.Nat.{add-zero}
+use lib.Dec.{eqb}
 use lib.ListN.{length}
-use borrow.Author.Tests.{lt-ltb}
+use borrow.Author.Tests.{lt-ltb, eqb-true, eqb-false, not-true}
 use Rattle.rules.specs.declared.Screen.{Screen}
 use Rattle.rules.specs.declared.Triangle.{Triangle}
 use Rattle.rules.specs.Turns.{upto, bit, howMany}
 use Rattle.rules.specs.Sizes.{groups, width, height, sound}
 use Rattle.rules.specs.Triangles.{sample, insideAll, covered, written, pixelDrawn, rowDrawn}
-use Rattle.rules.proofs.Turns.{upto-add, upto-still, howMany-add, howMany-none, howMany-same}
-use Rattle.rules.proofs.Pixels.{Sound, On, sound-facts, width-le, height-le}
+use Rattle.rules.proofs.Turns.{upto-add, upto-still, howMany-add, howMany-none, howMany-same, howMany-some, howMany-rest, howMany-nothing}
+use Rattle.rules.proofs.Pixels.{Sound, On, and-l, and-r, sound-facts, width-le, height-le}
 use Rattle.rules.proofs.Drawing.{length-pixels, written-left}
 use Rattle.cover.specs.declared.Side.{Side}
 use Rattle.cover.specs.declared.Sides.{Sides}
 use Rattle.cover.specs.declared.Values.{Values}
-use Rattle.cover.specs.Side.{SideOf, sideAt, first, second, third}
+use Rattle.cover.specs.Side.{SideOf, SidesOf, sideAt, first, second, third}
 use Rattle.cover.specs.Mask.{GroupAt, leafInside, maskOf, valuesAt, moved}
 use Rattle.cover.proofs.Mask.{mask-same}
 use Rattle.cover.proofs.Along.{step-right}
+use Rattle.cover.proofs.Unbroken.{past-run}
 use Rattle.draw.specs.declared.Counts.{Counts}
 use Rattle.draw.specs.Leaves.{GroupOn, GroupDone}
-use Rattle.draw.specs.Rows.{VisitDone, RowAsked, RowDone}
+use Rattle.draw.specs.Rows.{VisitDone, runEnded, RowAsked, RowDone}
 use Rattle.draw.proofs.Stretch.{not-written, pixel-still}
-use Rattle.draw.proofs.Rest.{mask-zero}
+use Rattle.draw.proofs.Named.{mask-zero}
 use Rattle.draw.proofs.Grouped.{stretch-still, none-written}
 
 -- on the screen, covered is inside
@@ -56,6 +58,15 @@ module _ (t : Triangle) (s : Screen) (n x y : ℕ) (o : GroupOn n s x y) where
 -- a leap of sixteen
 leap-one : (e : Side) (x y : ℕ) → e .leap ≡ e .a * 16 % 4294967296 → (sideAt e x y + e .leap) % 4294967296 ≡ sideAt e (x + 16) y
 leap-one e x y h = ap (λ (n : ℕ). (sideAt e x y + n) % 4294967296) h ∙ step-right e x 16 y
+
+pub leaped : (t : Triangle) (d : Sides) (x y : ℕ) → SidesOf t d → moved (valuesAt d x y) (d .leap) ≡ valuesAt d (x + 16) y
+leaped t d x y o =
+    λ i.
+    record {
+      p = leap-one (first d) x y (o .of1 .leaps) i;
+      q = leap-one (second d) x y (o .of2 .leaps) i;
+      r = leap-one (third d) x y (o .of3 .leaps) i;
+    }
 
 pub record Across (m₀ : List ℕ) (s : Screen) (t : Triangle) (d : Sides) (y b : ℕ) (m : List ℕ) (g : ℕ) (v : Values) (c w : ℕ) : Type 0 where
   pub before-end : g ≤ b
@@ -142,17 +153,14 @@ module _ (m₀ : List ℕ) (s : Screen) (t : Triangle) (d : Sides) (y a b : ℕ)
               ∙ ap (howMany (λ j. written t s m₀ j y)) e;
         }
 
-    pub across-last : ((x : ℕ) → g * 16 ≤ x → x < width (s .size) → insideAll t (sample x y) ≡ false)
+    pub across-last : ((x : ℕ) → g * 16 ≤ x → x < width (s .size) → covered t s x y ≡ false)
         → RowDone m₀ s t y (record { covered = c; written = w }) m
     unfolding rowDrawn
     across-last out =
         let x = g * 16 in
         let n = width (s .size) - x in
         let e : x + n ≡ width (s .size) = omega (arith, u .before-end, q .columns) in
-        let none : (i : ℕ) → i < n → covered t s (x + i) y ≡ false =
-        λ i l.
-        let j : x + i < width (s .size) = omega arith in
-        outside-uncovered t s (on (x + i) j) (out (x + i) (omega arith) j) in
+        let none : (i : ℕ) → i < n → covered t s (x + i) y ≡ false = λ i l. out (x + i) (omega arith) (omega arith) in
         record {
           covers =
               u .is-covered
@@ -172,19 +180,23 @@ module _ (m₀ : List ℕ) (s : Screen) (t : Triangle) (d : Sides) (y a b : ℕ)
         tail : (f : ℕ → Bool) (x n : ℕ) → ((i : ℕ) → i < n → f (x + i) ≡ false) → howMany f x ≡ howMany f (x + n)
         tail f x n h = omega (arith, howMany-add f x n, howMany-none (λ i. f (x + i)) n h)
 
-    -- the row ends at a group from which on nothing is inside
-    pub across-ended : g < b → (r : Counts) (m′ : List ℕ) → VisitDone m s t (g * 16) y r m′
-        → ((k : ℕ) → leafInside t (g * 16) y k ≡ false)
+    -- all groups are done
+    pub across-all : b ≤ g → RowDone m₀ s t y (record { covered = c; written = w }) m
+    across-all h = across-last (λ x k l. outside-uncovered t s (on x l) (q .beyond x (omega arith) l))
+
+    -- after a covered pixel, a group with none ends the row
+    pub across-ended : g < b → (r : Counts) (m′ : List ℕ) → VisitDone m s t (g * 16) y r m′ → runEnded c (r .covered) ≡ true
         → RowDone m₀ s t y (record { covered = c; written = w }) m′
-    across-ended h r m′ k out =
+    across-ended h r m′ k ended =
         let x = g * 16 in
-        let still : m′ ≡ m =
-        k .draws .leaves
-        ∙ stretch-still s t x y m 16
-        (λ i l. outside-uncovered t s (on (x + i) (omega (arith, q .columns))) (out i)) in
-        let done : RowDone m₀ s t y (record { covered = c; written = w }) m =
-        across-last
-        (λ j a l.
-        let i : x + (j - x) ≡ j = omega arith in
-        subst (λ (z : ℕ). insideAll t (sample z y) ≡ false) i (out (j - x))) in
+        let some = and-l (not (eqb c 0)) (eqb (r .covered) 0) ended in
+        let none = eqb-true (r .covered) 0 (and-r (not (eqb c 0)) (eqb (r .covered) 0) ended) in
+        let here : (i : ℕ) → i < 16 → covered t s (x + i) y ≡ false =
+        λ i l. howMany-rest (λ j. covered t s (x + j) y) 0 16 (howMany-nothing (λ j. covered t s (x + j) y) ∙ sym (sym (k .covers) ∙ none)) i (omega arith) l in
+        let still : m′ ≡ m = k .draws .leaves ∙ stretch-still s t x y m 16 here in
+        let more : howMany (λ j. covered t s j y) 0 < howMany (λ j. covered t s j y) x =
+        omega (arith, howMany-nothing (λ j. covered t s j y), u .is-covered, eqb-false c 0 (not-true (eqb c 0) some)) in
+        let found = howMany-some (λ j. covered t s j y) 0 x more in
+        let start : covered t s x y ≡ false = subst (λ (n : ℕ). covered t s n y ≡ false) (add-zero x) (here 0 (omega arith)) in
+        let done = across-last (λ j a l. past-run t s (found .0) x j y (omega (arith, found .2)) a (found .3) start) in
         record { covers = done .covers; writes = done .writes; leaves = still ∙ done .leaves }

@@ -13,13 +13,13 @@ use Rattle.rules.specs.Triangles.{topHalf, packed, covered, written, pixelDrawn
 use Rattle.cover.specs.Mask.{maskOf}
 use Rattle.draw.specs.declared.Tints.{Tints}
 
-abbrev pub passes : List ℕ → ℕ → ℕ → Tints → Bool
-passes m rest depth v = leb 32768 rest && leb (topHalf (v .depth)) (half m depth)
+abbrev pub passes : List ℕ → ℕ → Tints → Bool
+passes m depth v = leb (topHalf (v .depth)) (half m depth)
 
-pub record LeafDone (m : List ℕ) (rest colour depth : ℕ) (v : Tints) (answer : ℕ) (after : List ℕ) : Type 0 where
-  pub counts : answer ≡ bit (passes m rest depth v)
+pub record LeafDone (m : List ℕ) (colour depth : ℕ) (v : Tints) (before answer : ℕ) (after : List ℕ) : Type 0 where
+  pub counts : answer ≡ before + bit (passes m depth v)
   pub leaves : after
-      ≡ choose (passes m rest depth v)
+      ≡ choose (passes m depth v)
       (putHalf (putHalf m colour (packed (v .red) (v .green) (v .blue))) depth (topHalf (v .depth)))
       m
 

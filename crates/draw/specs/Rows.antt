@@ -2,11 +2,12 @@
 use Prim.Native.Nat.{ℕ, _+_, _*_, _≤_, _<_}
 use mathlib.Core.Path.{_≡_}
 use mathlib.Core.Logic.{_⊎_}
-use mathlib.Core.Bool.{Bool, true, false}
+use mathlib.Core.Bool.{Bool, true, false, not, _&&_}
 use mathlib.Core.List.{List}
+use lib.Dec.{eqb}
 use Rattle.rules.specs.declared.Screen.{Screen}
 use Rattle.rules.specs.declared.Triangle.{Triangle}
-use Rattle.rules.specs.Turns.{howMany, pixels}
+use Rattle.rules.specs.Turns.{howMany}
 use Rattle.rules.specs.Sizes.{groups, width, height, sound}
 use Rattle.rules.specs.Numbers.{verticesInRange}
 use Rattle.rules.specs.Triangles.{sample, insideAll, covered, written, rowDrawn, drawn, coveredPixels, writtenPixels}
@@ -19,6 +20,10 @@ use Rattle.draw.specs.Leaves.{GroupDone}
 pub record VisitDone (m : List ℕ) (s : Screen) (t : Triangle) (x y : ℕ) (answer : Counts) (after : List ℕ) : Type 0 where
   pub covers : answer .covered ≡ howMany (λ k. covered t s (x + k) y) 16
   pub draws : GroupDone m s t x y (answer .written) after
+
+-- something was covered before, and now nothing is
+abbrev pub runEnded : ℕ → ℕ → Bool
+runEnded before now = not (eqb before 0) && eqb now 0
 
 -- nothing of row y is inside but in the groups a to b
 pub record RowAsked (n : ℕ) (s : Screen) (t : Triangle) (d : Sides) (y a b : ℕ) : Type 0 where

@@ -14,40 +14,36 @@ ghost use Prim.Native.Nat.{_+_, _<_};
 ghost use lib.ListN.{length};
 ghost use Rattle.draw.specs.Leaves.{LeafDone, GroupAsked, GroupDone};
 
-// One leaf, written where the top bit of `rest` is set and its depth is at most the stored one. It answers 1 where it was written.
-pub fn leaf(ram: &mut [u8], rest: u32, colour: usize, depth: usize, v: Tints) -> u32
-    requires { ⌜ (colour + 1 < length (now ram)) × (depth + 1 < length (now ram)) ⌝ }
-    ensures { λ r. ⌜ LeafDone (now (ram .entry)) rest colour depth v r (now (ram .exit)) ⌝ }
+// One covered leaf, written where its depth is at most the stored one. It answers how many were written, this one with the given number.
+pub fn leaf(ram: &mut [u8], colour: usize, depth: usize, v: Tints, written: u32) -> u32
+    requires { ⌜ (colour + 1 < length (now ram)) × (depth + 1 < length (now ram)) × (written < 16) ⌝ }
+    ensures { λ r. ⌜ LeafDone (now (ram .entry)) colour depth v written r (now (ram .exit)) ⌝ }
 {
-    if rest < 32768 {
-        return 0;
-    }
     let z = v.depth / 65536;
     if load_half(ram, depth) < z {
-        return 0;
+        return written;
     }
     store_half(ram, colour, colour_of(v));
     store_half(ram, depth, z);
-    1
+    written + 1
 }
 
-// The leaves that the mask names, from the first one on. It answers how many were written.
+// The leaves that the mask names: from the first one on there are as many as it has ones, without a gap. It answers how many were written.
 pub fn group(ram: &mut [u8], s: Screen, t: Triangle, x: u32, y: u32, mask: u16) -> u32
     requires { ⌜ GroupAsked (length (now ram)) s t x y mask ⌝ }
     ensures { λ r. ⌜ GroupDone (now (ram .entry)) s t x y r (now (ram .exit)) ⌝ }
 {
-    let skip = u16::leading_zeros(mask);
-    let mut rest = (mask as u32) << skip;
-    let mut k = skip;
+    let mut k = u16::leading_zeros(mask);
+    let mut left = u16::count_ones(mask);
     let mut v = tints_at(t, x + k, y);
     let mut written: u32 = 0;
-    while rest != 0 {
+    while left != 0 {
         let colour = colour_place(s, x + k, y);
         let depth = depth_place(s, x + k, y);
-        written += leaf(ram, rest, colour, depth, v);
+        written = leaf(ram, colour, depth, v, written);
         v = tints_right(v, t);
-        rest = rest * 2 % 65536;
         k += 1;
+        left -= 1;
     }
     written
 }

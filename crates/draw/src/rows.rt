@@ -5,18 +5,14 @@ use cover::Sides;
 use cover::Values;
 use cover::group::group_mask;
 use cover::group::plus;
-use cover::group::row_ended;
 use cover::group::values_at;
 use rules::Screen;
 use rules::Triangle;
 ghost use mathlib.Core.Path.{_≡_};
-ghost use mathlib.Core.Bool.{true, false};
-ghost use Prim.Native.Nat.{ℕ};
 ghost use lib.ListN.{length};
-ghost use Rattle.rules.specs.declared.Triangle.{Triangle};
-ghost use Rattle.cover.specs.Mask.{GroupAt, leafInside};
+ghost use Rattle.cover.specs.Mask.{GroupAt};
 ghost use Rattle.draw.specs.Leaves.{GroupOn};
-ghost use Rattle.draw.specs.Rows.{VisitDone, RowAsked, RowDone};
+ghost use Rattle.draw.specs.Rows.{VisitDone, runEnded, RowAsked, RowDone};
 
 // One group: nothing where its mask is empty.
 fn visit(ram: &mut [u8], s: Screen, t: Triangle, d: Sides, v: Values, x: u32, y: u32) -> Counts
@@ -37,17 +33,17 @@ fn visit(ram: &mut [u8], s: Screen, t: Triangle, d: Sides, v: Values, x: u32, y:
     }
 }
 
-// Whether the row can end at this group, none of whose leaves was covered.
-fn at_end(covered: u32, v: Values, d: Sides) -> bool
-    ensures { λ r. ⌜ ((t : Triangle) (x y : ℕ) → GroupAt t x y v d → r ≡ true → (k : ℕ) → leafInside t x y k ≡ false) ⌝ }
+// Whether the row's run has ended: something was covered before, and now nothing is.
+fn run_ended(before: u32, now: u32) -> bool
+    ensures { λ r. ⌜ r ≡ runEnded before now ⌝ }
 {
-    if covered != 0 {
+    if before == 0 {
         return false;
     }
-    row_ended(v, d)
+    now == 0
 }
 
-// Row y, which nothing covers outside the groups `from` to `to`.
+// Row y, which nothing covers outside the groups `from` to `to`. Its covered pixels have no gap.
 pub fn row(ram: &mut [u8], s: Screen, t: Triangle, d: Sides, y: u32, from: u32, to: u32) -> Counts
     requires { ⌜ RowAsked (length (now ram)) s t d y from to ⌝ }
     ensures { λ r. ⌜ RowDone (now (ram .entry)) s t y r (now (ram .exit)) ⌝ }
@@ -58,7 +54,7 @@ pub fn row(ram: &mut [u8], s: Screen, t: Triangle, d: Sides, y: u32, from: u32, 
     let mut written: u32 = 0;
     while g < to {
         let c = visit(ram, s, t, d, v, g * 16, y);
-        if at_end(c.covered, v, d) {
+        if run_ended(covered, c.covered) {
             return Counts { covered, written };
         }
         covered += c.covered;

@@ -16,9 +16,9 @@ ghost use Rattle.rules.specs.Calls.{Draws};
 fn triangle_number(len: usize, s: Screen, t: Triangle) -> u32
     ensures { λ r. ⌜ r ≡ triangleNumber len s t ⌝ }
 {
-    let number = screen_number(len, s);
-    if number != 0 {
-        return number;
+    let first = screen_number(len, s);
+    if first != 0 {
+        return first;
     }
     if !vertices_in_range(t) {
         return 6;

@@ -1,4 +1,4 @@
--- Document 01, section by section: Sizes, Numbers, Triangles, Rows. Turns has the plain recursions that they use.
+-- Document 01, section by section: Sizes, Triangles, Numbers, and what each call leaves (Calls). Turns has the plain recursions that they use.
 pub mod Turns
 pub mod Sizes
 pub mod Triangles

@@ -4,3 +4,4 @@ pub mod Fills
 pub mod RowBounds
 pub mod Runs
 pub mod Tests
+pub mod Unique

@@ -1,37 +1,31 @@
 -- The loop's invariant is `Turn`: what holds after k leaves. Its laws are the loop's needs.
-use Prim.Native.Nat.{ℕ, _+_, _*_, _^_, _-_, _%_, _≤_, _<_}
-use mathlib.Core.Path.{_≡_, refl, sym, _∙_, ap, subst, subst₂}
+use Prim.Native.Nat.{ℕ, _+_, _-_, _≤_, _<_}
+use mathlib.Core.Path.{_≡_, refl, sym, subst, subst₂}
 use mathlib.Core.Bool.{Bool}
 use native.Mathlib.Omega.{arith}
-use lib.Count.{leadingZeros, leading-le}
+use lib.Count.{ones, leadingZeros, leading-le}
 use lib.ListN.{length}
 use Rattle.rules.specs.Sizes.{colourAt, depthAt}
 use Rattle.rules.specs.Triangles.{written}
 use Rattle.rules.proofs.Turns.{howMany-le}
 use Rattle.rules.proofs.Pixels.{sound-facts, colour-fits, depth-fits}
-use Rattle.cover.proofs.Mask.{bit-le, mask-small}
-use Rattle.draw.specs.Leaves.{LeafDone, passes}
-use Rattle.draw.proofs.Rest.{from}
 use Rattle.draw.specs.declared.Tints.{Tints}
-use Rattle.draw.proofs.Grouped.{Turn, leafOn, turn-first, turn-more, turn-last, still-left, on-leaf, length-now}
+use Rattle.draw.specs.Leaves.{LeafDone}
+use Rattle.draw.proofs.Grouped.{Turn, turn-first, turn-more, turn-last, still-left, on-leaf, length-now}
 use Rattle.draw.proofs.leaves.group.Statement.{statement}
 use Rattle.draw.proofs.leaves.group.Tie as tie
 
 abbrev Inv-loop : tie.InvT-loop
-Inv-loop ram₀ s t x y mask skip rest₀ k₀ v₀ written₀ ram rest k v written = Turn ram₀ s t x y ram rest k v written
+Inv-loop ram₀ s t x y mask k₀ left₀ v₀ written₀ ram k left v written = Turn ram₀ s t x y ram left k v written
 
 abbrev μ-loop : tie.MeasureT-loop
-μ-loop ram₀ s t x y mask skip rest₀ k₀ v₀ written₀ ram rest k v written = 16 - k
+μ-loop ram₀ s t x y mask k₀ left₀ v₀ written₀ ram k left v written = left
 
--- the turn's facts at the loop's head
 less : (c : tie.In-loop Inv-loop μ-loop) → c .before .loop .k < 16
 less c =
     let a = c .before .before .before .before .args in
     let l = c .before .loop in
-    still-left (a .s) (a .t) (a .x) (a .y) (a .ram .now) (l .ram) (l .rest) (l .k) (l .v) (l .written) (l .inv) (c .loop-test .taken)
-
-shl-rest : tie.Need-shl-rest Inv-loop μ-loop
-shl-rest c = omega (arith, leading-le 16 (c .before .args .mask))
+    still-left (a .s) (a .t) (a .x) (a .y) (a .ram .now) (l .ram) (l .left) (l .k) (l .v) (l .written) (l .inv) (c .loop-test .taken)
 
 add-tints-at : tie.Need-add-tints-at Inv-loop μ-loop
 add-tints-at c = omega (arith, leading-le 16 (c .before .args .mask), c .before .pre .on .columns)
@@ -41,11 +35,11 @@ tints-at-requires c κs = tt
 
 loop-holds : tie.Need-loop-holds Inv-loop μ-loop
 loop-holds c =
-    let a = c .before .before .args in
-    subst
-    (λ (v : Tints). Turn (a .ram .now) (a .s) (a .t) (a .x) (a .y) (a .ram .now) (a .mask * 2 ^ leadingZeros 16 (a .mask) % 4294967296) (leadingZeros 16 (a .mask)) v 0)
+    let q = c .before .before in
+    let a = q .args in
+    subst (λ (v : Tints). Turn (a .ram .now) (a .s) (a .t) (a .x) (a .y) (a .ram .now) (ones (a .mask)) (leadingZeros 16 (a .mask)) v 0)
     (sym (c .tints-at .ensures))
-    (turn-first (a .s) (a .t) (a .x) (a .y) (a .ram .now) (a .mask) (c .before .before .pre .names))
+    (turn-first (a .s) (a .t) (a .x) (a .y) (a .ram .now) (a .mask) (q .pre .names) (q .pre .some))
 
 add-colour-place : tie.Need-add-colour-place Inv-loop μ-loop
 add-colour-place c = omega (arith, less c, c .before .before .before .before .pre .on .columns)
@@ -66,41 +60,25 @@ leaf-requires c κs =
     let l = c .before .before .before .before .loop in
     let h = less (c .before .before .before) in
     let k = sound-facts (q .pre .on .is-sound) in
-    let p = on-leaf (a .s) (a .t) (a .x) (a .y) (a .ram .now) (l .ram) (l .rest) (l .k) (l .v) (l .written) (l .inv) (length (a .ram .now)) refl (q .pre .on) h in
-    let e = length-now (a .s) (a .t) (a .x) (a .y) (a .ram .now) (l .ram) (l .rest) (l .k) (l .v) (l .written) (l .inv) (length (a .ram .now)) refl (q .pre .on) in (
+    let p = on-leaf (a .s) (a .t) (a .x) (a .y) (a .ram .now) (l .ram) (l .left) (l .k) (l .v) (l .written) (l .inv) (length (a .ram .now)) refl (q .pre .on) h in
+    let e = length-now (a .s) (a .t) (a .x) (a .y) (a .ram .now) (l .ram) (l .left) (l .k) (l .v) (l .written) (l .inv) (length (a .ram .now)) refl (q .pre .on) in
+    let f : ℕ → Bool = λ i. written (a .t) (a .s) (a .ram .now) (a .x + i) (a .y) in (
       subst₂ (λ (m n : ℕ). m + 1 < n) (sym (c .before .before .colour-place .ensures)) (sym e) (colour-fits k p),
       subst₂ (λ (m n : ℕ). m + 1 < n) (sym (c .before .depth-place .ensures)) (sym e) (depth-fits k p),
-    )
-
-add-written : tie.Need-add-written Inv-loop μ-loop
-add-written c =
-    let a = c .before .before .before .before .before .before .before .before .before .before .args in
-    let l = c .before .before .before .before .before .before .before .loop in
-    let f : ℕ → Bool = λ i. written (a .t) (a .s) (a .ram .now) (a .x + i) (a .y) in
-    let d = c .before .before .leaf .ensures in
-    omega (
-      arith,
-      l .inv .is-written,
-      howMany-le f (l .k),
-      l .inv .leaves,
-      d .counts,
-      bit-le (passes (l .ram) (l .rest) (c .before .before .before .before .depth-place .result) (l .v)),
+      omega (arith, l .inv .is-written, howMany-le f (l .k)),
     )
 
 tints-right-requires : tie.Need-tints-right-requires Inv-loop μ-loop
 tints-right-requires c κs = tt
 
-mul-rest : tie.Need-mul-rest Inv-loop μ-loop
-mul-rest c =
-    let a = c .before .before .before .before .before .before .before .before .before .before .before .args in
-    let l = c .before .before .before .before .before .before .before .before .loop in
-    omega (arith, l .inv .is-left, mask-small (from (leafOn (a .t) (a .s) (a .x) (a .y)) (l .k)) 16 (omega arith))
-
 add-k : tie.Need-add-k Inv-loop μ-loop
 add-k c = omega (arith, less (c .before .before .before .before .before .before .before))
 
+sub-left : tie.Need-sub-left Inv-loop μ-loop
+sub-left c = omega (arith, c .before .before .before .before .before .before .before .loop-test .taken)
+
 loop-less : tie.Need-loop-less Inv-loop μ-loop
-loop-less c = omega (arith, less (c .before .before .before .before .before .before .before))
+loop-less c = omega (arith, c .before .before .before .before .before .before .before .loop-test .taken)
 
 loop-again : tie.Need-loop-again Inv-loop μ-loop
 loop-again c =
@@ -108,30 +86,29 @@ loop-again c =
     let a = q .args in
     let l = c .before .before .before .before .before .before .before .before .loop in
     let f = c .before .before .before .leaf in
-    let d : LeafDone (l .ram) (l .rest) (colourAt (a .s) (a .x + l .k) (a .y)) (depthAt (a .s) (a .x + l .k) (a .y)) (l .v) (f .result) (f .last .0) =
-    subst₂ (λ (m n : ℕ). LeafDone (l .ram) (l .rest) m n (l .v) (f .result) (f .last .0))
+    let d : LeafDone (l .ram) (colourAt (a .s) (a .x + l .k) (a .y)) (depthAt (a .s) (a .x + l .k) (a .y)) (l .v) (l .written) (f .result) (f .last .0) =
+    subst₂ (λ (m n : ℕ). LeafDone (l .ram) m n (l .v) (l .written) (f .result) (f .last .0))
     (c .before .before .before .before .before .before .colour-place .ensures)
     (c .before .before .before .before .before .depth-place .ensures)
     (f .ensures) in
-    subst
-    (λ (v : Tints). Turn (a .ram .now) (a .s) (a .t) (a .x) (a .y) (f .last .0) (l .rest * 2 % 65536) (l .k + 1) v (l .written + f .result))
+    subst (λ (v : Tints). Turn (a .ram .now) (a .s) (a .t) (a .x) (a .y) (f .last .0) (l .left - 1) (l .k + 1) v (f .result))
     (sym (c .tints-right .ensures))
-    (turn-more (a .s) (a .t) (a .x) (a .y) (a .ram .now) (l .ram) (l .rest) (l .k) (l .v) (l .written) (l .inv)
-    (length (a .ram .now)) refl (q .pre .on) (less (c .before .before .before .before .before .before .before)) (f .result) (f .last .0) d)
+    (turn-more (a .s) (a .t) (a .x) (a .y) (a .ram .now) (l .ram) (l .left) (l .k) (l .v) (l .written) (l .inv)
+    (length (a .ram .now)) refl (q .pre .on) (c .before .before .before .before .before .before .before .loop-test .taken) (f .result) (f .last .0) d)
 
 same-length : tie.Need-same-length Inv-loop μ-loop
 same-length c =
     let q = c .before .before .before .before in
     let a = q .args in
     let l = c .before .loop in
-    length-now (a .s) (a .t) (a .x) (a .y) (a .ram .now) (l .ram) (l .rest) (l .k) (l .v) (l .written) (l .inv)
+    length-now (a .s) (a .t) (a .x) (a .y) (a .ram .now) (l .ram) (l .left) (l .k) (l .v) (l .written) (l .inv)
     (length (a .ram .now)) refl (q .pre .on)
 
 returns : tie.Need-returns Inv-loop μ-loop
 returns c =
     let a = c .before .before .before .before .args in
     let l = c .before .loop in
-    turn-last (a .s) (a .t) (a .x) (a .y) (a .ram .now) (l .ram) (l .rest) (l .k) (l .v) (l .written) (l .inv) (c .loop-test .left)
+    turn-last (a .s) (a .t) (a .x) (a .y) (a .ram .now) (l .ram) (l .left) (l .k) (l .v) (l .written) (l .inv) (c .loop-test .left)
 
 pub group-spec : {M : Type 1} → statement M
 group-spec =
@@ -139,7 +116,6 @@ group-spec =
     (tie.spec
     Inv-loop
     μ-loop
-    shl-rest
     add-tints-at
     tints-at-requires
     loop-holds
@@ -148,10 +124,9 @@ group-spec =
     add-depth-place
     depth-place-requires
     leaf-requires
-    add-written
     tints-right-requires
-    mul-rest
     add-k
+    sub-left
     loop-less
     loop-again
     same-length

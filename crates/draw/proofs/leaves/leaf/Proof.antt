@@ -1,7 +1,8 @@
--- The two tests on the way are the two of `passes`, and the two stores are its two half-words.
+-- The test on the way is `passes`, and the two stores are the pixel's two half-words.
 use Prim.Native.Nat.{ℕ, _/_, _≤_, _<_}
-use mathlib.Core.Path.{_≡_, _∙_, ap, subst}
+use mathlib.Core.Path.{_≡_, sym, _∙_, ap, subst}
 use mathlib.Core.List.{List}
+use native.Mathlib.Nat.{add-zero}
 use borrow.Author.Tests.{le-leb, lt-leb}
 use Rattle.rules.specs.Sizes.{putHalf}
 use Rattle.rules.specs.Triangles.{topHalf}
@@ -9,23 +10,17 @@ use borrow.Author.Needs.{needs}
 use Rattle.draw.proofs.leaves.leaf.Statement.{statement}
 use Rattle.draw.proofs.leaves.leaf.Tie as tie
 
-returns : tie.Need-returns
-returns c =
-    let e = lt-leb 32768 _ (c .if1 .taken) in
-    record { counts = rw e; leaves = rw e }
-
 load-half-requires : tie.Need-load-half-requires
 load-half-requires c κs = search needs
 
 same-length : tie.Need-same-length
 same-length c = search needs
 
-returns-2 : tie.Need-returns-2
+returns : tie.Need-returns
 unfolding topHalf
-returns-2 c =
-    let e = le-leb 32768 _ (c .before .before .before .before .if1 .left) in
-    let f = lt-leb _ _ (subst (λ (n : ℕ). n < c .before .before .before .before .before .before .args .v .depth / 65536) (c .before .load-half .ensures .value) (c .if2 .taken)) in
-    record { counts = rw (e, f); leaves = rw (e, f) }
+returns c =
+    let f = lt-leb _ _ (subst (λ (n : ℕ). n < c .before .before .before .before .before .args .v .depth / 65536) (c .before .load-half .ensures .value) (c .if1 .taken)) in
+    record { counts = rw f (sym (add-zero _)); leaves = rw f }
 
 colour-of-requires : tie.Need-colour-of-requires
 colour-of-requires c κs = search needs
@@ -36,18 +31,20 @@ store-half-requires c κs = search needs
 store-half-requires-2 : tie.Need-store-half-requires-2
 store-half-requires-2 c κs = search needs
 
+add-result : tie.Need-add-result
+add-result c = search needs
+
 same-length-2 : tie.Need-same-length-2
 same-length-2 c = search needs
 
-returns-3 : tie.Need-returns-3
+returns-2 : tie.Need-returns-2
 unfolding topHalf
-returns-3 c =
-    let a = c .before .before .before .before .before .before .before .before .before .before .before .before .before .before .before .args in
-    let e = le-leb 32768 _ (c .before .before .before .before .before .before .before .before .before .before .before .before .before .if1 .left) in
-    let f = le-leb _ _ (subst (λ (n : ℕ). a .v .depth / 65536 ≤ n) (c .before .before .before .before .before .before .before .before .before .before .load-half .ensures .value) (c .before .before .before .before .before .before .before .before .before .if2 .left)) in
+returns-2 c =
+    let a = c .before .before .before .before .before .before .before .before .before .before .before .before .before .before .args in
+    let f = le-leb _ _ (subst (λ (n : ℕ). a .v .depth / 65536 ≤ n) (c .before .before .before .before .before .before .before .before .before .before .load-half .ensures .value) (c .before .before .before .before .before .before .before .before .before .if1 .left)) in
     record {
-      counts = rw (e, f);
-      leaves = rw (e, f)
+      counts = rw f;
+      leaves = rw f
           (c .before .before .store-half2 .ensures
           ∙ ap (λ (m : List ℕ). putHalf m (a .depth) (a .v .depth / 65536))
           (c .before .before .before .before .before .before .store-half .ensures
@@ -58,12 +55,12 @@ pub leaf-spec : {M : Type 1} → statement M
 leaf-spec =
     tie.close
     (tie.spec
-    returns
     load-half-requires
     same-length
-    returns-2
+    returns
     colour-of-requires
     store-half-requires
     store-half-requires-2
+    add-result
     same-length-2
-    returns-3)
+    returns-2)

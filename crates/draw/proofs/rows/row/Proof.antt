@@ -1,15 +1,16 @@
 -- The loop's invariant is `Across`: what holds before group g. Its laws are the loop's needs.
 use Prim.Native.Nat.{ℕ, _+_, _*_, _-_, _≤_, _<_}
-use mathlib.Core.Path.{_≡_, refl, sym, _∙_, ap, subst}
+use mathlib.Core.Path.{_≡_, sym, _∙_, subst}
 use mathlib.Core.List.{List}
 use native.Mathlib.Omega.{arith}
-use lib.ListN.{length}
 use Rattle.rules.specs.Triangles.{covered, written}
 use Rattle.rules.proofs.Turns.{howMany-le}
 use Rattle.rules.proofs.Pixels.{sound-facts, width-le}
 use Rattle.cover.specs.declared.Values.{Values}
-use Rattle.cover.specs.Mask.{valuesAt, moved}
-use Rattle.draw.proofs.Rowed.{Across, across-first, across-more, across-last, across-ended, group-on, group-at, length-across}
+use Rattle.cover.specs.Mask.{moved}
+use Rattle.draw.specs.declared.Counts.{Counts}
+use Rattle.draw.specs.Rows.{VisitDone}
+use Rattle.draw.proofs.Rowed.{Across, across-first, across-more, across-all, across-ended, group-on, group-at, length-across}
 use Rattle.draw.proofs.rows.row.Statement.{statement}
 use Rattle.draw.proofs.rows.row.Tie as tie
 
@@ -18,6 +19,16 @@ Inv-loop ram₀ s t d y from to g₀ v₀ covered₀ written₀ ram g v covered 
 
 abbrev μ-loop : tie.MeasureT-loop
 μ-loop ram₀ s t d y from to g₀ v₀ covered₀ written₀ ram g v covered written = to - g
+
+-- a turn leaves one group more drawn
+more : (c : tie.In-loop Inv-loop μ-loop) (r : Counts) (m : List ℕ)
+    → VisitDone (c .before .loop .ram) (c .before .before .before .before .args .s) (c .before .before .before .before .args .t) (c .before .loop .g * 16) (c .before .before .before .before .args .y) r m
+    → Across (c .before .before .before .before .args .ram .now) (c .before .before .before .before .args .s) (c .before .before .before .before .args .t) (c .before .before .before .before .args .d) (c .before .before .before .before .args .y) (c .before .before .before .before .args .to) m (c .before .loop .g + 1) (moved (c .before .loop .v) (c .before .before .before .before .args .d .leap)) (c .before .loop .covered + r .covered) (c .before .loop .written + r .written)
+more c r m d =
+    let q = c .before .before .before .before in
+    let a = q .args in
+    let l = c .before .loop in
+    across-more (a .ram .now) (a .s) (a .t) (a .d) (a .y) (a .from) (a .to) (q .pre) (l .ram) (l .g) (l .v) (l .covered) (l .written) (l .inv) (c .loop-test .taken) r m d
 
 mul-values-at : tie.Need-mul-values-at Inv-loop μ-loop
 mul-values-at c = omega (arith, c .before .pre .ordered, c .before .pre .columns)
@@ -44,8 +55,8 @@ visit-requires c κs =
     let h = c .before .loop-test .taken in
     (group-on (a .ram .now) (a .s) (a .t) (a .d) (a .y) (a .from) (a .to) (q .pre) (l .ram) (l .g) (l .v) (l .covered) (l .written) (l .inv) h, group-at (a .ram .now) (a .s) (a .t) (a .d) (a .y) (a .from) (a .to) (q .pre) (l .ram) (l .g) (l .v) (l .covered) (l .written) (l .inv) h)
 
-at-end-requires : tie.Need-at-end-requires Inv-loop μ-loop
-at-end-requires c κs = tt
+run-ended-requires : tie.Need-run-ended-requires Inv-loop μ-loop
+run-ended-requires c κs = tt
 
 same-length : tie.Need-same-length Inv-loop μ-loop
 same-length c =
@@ -59,28 +70,27 @@ returns c =
     let q = c .before .before .before .before .before .before .before .before .before .before in
     let a = q .args in
     let l = c .before .before .before .before .before .before .before .loop in
-    let h = c .before .before .before .before .before .before .loop-test .taken in
     let w = c .before .before .before .before .visit in
-    across-ended (a .ram .now) (a .s) (a .t) (a .d) (a .y) (a .from) (a .to) (q .pre) (l .ram) (l .g) (l .v) (l .covered) (l .written) (l .inv) h (w .result) (w .last .0) (w .ensures)
-    (c .before .at-end .ensures (a .t) (l .g * 16) (a .y) (group-at (a .ram .now) (a .s) (a .t) (a .d) (a .y) (a .from) (a .to) (q .pre) (l .ram) (l .g) (l .v) (l .covered) (l .written) (l .inv) h) (c .if1 .taken))
+    across-ended (a .ram .now) (a .s) (a .t) (a .d) (a .y) (a .from) (a .to) (q .pre) (l .ram) (l .g) (l .v) (l .covered) (l .written) (l .inv) (c .before .before .before .before .before .before .loop-test .taken) (w .result) (w .last .0) (w .ensures)
+    (sym (c .before .run-ended .ensures) ∙ c .if1 .taken)
 
 add-covered : tie.Need-add-covered Inv-loop μ-loop
 add-covered c =
+    let i = c .before .before .before .before .before .before .before in
     let q = c .before .before .before .before .before .before .before .before .before .before .before in
     let a = q .args in
-    let l = c .before .before .before .before .before .before .before .before .loop in
     let w = c .before .before .before .before .before .visit in
-    let u = across-more (a .ram .now) (a .s) (a .t) (a .d) (a .y) (a .from) (a .to) (q .pre) (l .ram) (l .g) (l .v) (l .covered) (l .written) (l .inv) (c .before .before .before .before .before .before .before .loop-test .taken) (w .result) (w .last .0) (w .ensures) in
-    omega (arith, u .is-covered, howMany-le (λ x. covered (a .t) (a .s) x (a .y)) ((l .g + 1) * 16), c .before .before .before .before .before .before .before .loop-test .taken, q .pre .columns, width-le (sound-facts (q .pre .is-sound)))
+    let u = more i (w .result) (w .last .0) (w .ensures) in
+    omega (arith, u .is-covered, howMany-le (λ x. covered (a .t) (a .s) x (a .y)) ((i .before .loop .g + 1) * 16), i .loop-test .taken, q .pre .columns, width-le (sound-facts (q .pre .is-sound)))
 
 add-written : tie.Need-add-written Inv-loop μ-loop
 add-written c =
+    let i = c .before .before .before .before .before .before .before .before in
     let q = c .before .before .before .before .before .before .before .before .before .before .before .before in
     let a = q .args in
-    let l = c .before .before .before .before .before .before .before .before .before .loop in
     let w = c .before .before .before .before .before .before .visit in
-    let u = across-more (a .ram .now) (a .s) (a .t) (a .d) (a .y) (a .from) (a .to) (q .pre) (l .ram) (l .g) (l .v) (l .covered) (l .written) (l .inv) (c .before .before .before .before .before .before .before .before .loop-test .taken) (w .result) (w .last .0) (w .ensures) in
-    omega (arith, u .is-written, howMany-le (λ x. written (a .t) (a .s) (a .ram .now) x (a .y)) ((l .g + 1) * 16), c .before .before .before .before .before .before .before .before .loop-test .taken, q .pre .columns, width-le (sound-facts (q .pre .is-sound)))
+    let u = more i (w .result) (w .last .0) (w .ensures) in
+    omega (arith, u .is-written, howMany-le (λ x. written (a .t) (a .s) (a .ram .now) x (a .y)) ((i .before .loop .g + 1) * 16), i .loop-test .taken, q .pre .columns, width-le (sound-facts (q .pre .is-sound)))
 
 plus-requires : tie.Need-plus-requires Inv-loop μ-loop
 plus-requires c κs = tt
@@ -93,14 +103,14 @@ loop-less c = omega (arith, c .before .before .before .before .before .before .b
 
 loop-again : tie.Need-loop-again Inv-loop μ-loop
 loop-again c =
-    let q = c .before .before .before .before .before .before .before .before .before .before .before .before .before .before in
-    let a = q .args in
-    let l = c .before .before .before .before .before .before .before .before .before .before .before .loop in
+    let i = c .before .before .before .before .before .before .before .before .before .before in
+    let a = c .before .before .before .before .before .before .before .before .before .before .before .before .before .before .args in
+    let l = i .before .loop in
     let w = c .before .before .before .before .before .before .before .before .visit in
     subst
     (λ (v : Values). Across (a .ram .now) (a .s) (a .t) (a .d) (a .y) (a .to) (w .last .0) (l .g + 1) v (l .covered + w .result .covered) (l .written + w .result .written))
     (sym (c .plus .ensures))
-    (across-more (a .ram .now) (a .s) (a .t) (a .d) (a .y) (a .from) (a .to) (q .pre) (l .ram) (l .g) (l .v) (l .covered) (l .written) (l .inv) (c .before .before .before .before .before .before .before .before .before .before .loop-test .taken) (w .result) (w .last .0) (w .ensures))
+    (more i (w .result) (w .last .0) (w .ensures))
 
 same-length-2 : tie.Need-same-length-2 Inv-loop μ-loop
 same-length-2 c =
@@ -114,8 +124,7 @@ returns-2 c =
     let q = c .before .before .before .before in
     let a = q .args in
     let l = c .before .loop in
-    across-last (a .ram .now) (a .s) (a .t) (a .d) (a .y) (a .from) (a .to) (q .pre) (l .ram) (l .g) (l .v) (l .covered) (l .written) (l .inv)
-    (λ x h k. q .pre .beyond x (omega (arith, c .loop-test .left)) k)
+    across-all (a .ram .now) (a .s) (a .t) (a .d) (a .y) (a .from) (a .to) (q .pre) (l .ram) (l .g) (l .v) (l .covered) (l .written) (l .inv) (c .loop-test .left)
 
 pub row-spec : {M : Type 1} → statement M
 row-spec =
@@ -128,7 +137,7 @@ row-spec =
     loop-holds
     mul-visit
     visit-requires
-    at-end-requires
+    run-ended-requires
     same-length
     returns
     add-covered

@@ -1,0 +1,190 @@
+-- A step and a run keep the lengths of the data memory, of the RAM and of the registers, and a tree keeps its sixteen leaves.
+use Prim.Native.Nat.{ℕ, zero, suc}
+use mathlib.Core.Path.{_≡_, refl, _∙_}
+use mathlib.Core.List.{List}
+use lib.ListN.{length, length-set}
+use lib.Dec.{eqb}
+use Rattle.rules.specs.declared.Screen.{Screen}
+use Rattle.rules.specs.Turns.{upto}
+use Rattle.rules.specs.Sizes.{width, height, putPixel}
+use Rattle.rules.specs.Calls.{cleared}
+use Rattle.rules.proofs.Turns.{upto-keeps}
+use Rattle.rules.proofs.Halves.{length-putHalf}
+use Rattle.rules.proofs.Pixels.{length-putPixel}
+use Rattle.instructions.specs.declared.Tree.{Tree}
+use Rattle.instructions.specs.Moves.{putWord, wordRead, wordsRead, wordWritten, wordsWritten}
+use Rattle.instructions.specs.Tree.{maskBit, treeSet, marked, treeIn, deepened, treeDepth, treeColour, treeVal, isPut, leafPut, treePut}
+use Rattle.instructions.specs.Halts.{wordAt}
+use Rattle.instructions.specs.Step.{Machine, withRegisters, withPlace, withFlags, withHalt, withScreen, withTree, afterResult, afterST, afterCALL, afterREAD, afterWRITE, afterSCRSET, afterCLS, afterTREESET, grown, afterTREEIN, afterTREEVAL, afterTREEPUT, effect, performed, isHalted, nextHalt, step}
+use Rattle.instructions.specs.Run.{run}
+use Rattle.instructions.proofs.Picks.{pick}
+use Rattle.instructions.proofs.Leaves.{length-each}
+use Rattle.instructions.proofs.Registers.{length-write}
+use Rattle.instructions.proofs.Effects.{effect-has}
+
+pub length-putWord : (l : List ℕ) (a v : ℕ) → length (putWord l a v) ≡ length l
+unfolding putWord
+length-putWord l a v = simp length-putHalf
+
+length-turns : (f : ℕ → List ℕ → List ℕ) (n : ℕ) (l : List ℕ)
+    → ((i : ℕ) (k : List ℕ) → length (f i k) ≡ length k)
+    → length (upto f n l) ≡ length l
+length-turns f n l h = upto-keeps f (λ k. length k ≡ length l) n l (λ i k b e. h i k ∙ e) refl
+
+pub length-wordsRead : (ram : List ℕ) (to from : ℕ) (memory : List ℕ) → length (wordsRead ram to from memory) ≡ length memory
+unfolding wordsRead wordRead
+length-wordsRead ram to from memory = length-turns (wordRead ram to from) 16 memory (λ i k. length-set k _ _)
+
+pub length-wordsWritten : (memory : List ℕ) (from to : ℕ) (ram : List ℕ) → length (wordsWritten memory from to ram) ≡ length ram
+unfolding wordsWritten wordWritten
+length-wordsWritten memory from to ram = length-turns (wordWritten memory from to) 16 ram (λ i k. length-putWord k _ _)
+
+pub length-cleared : (s : Screen) (colour depth : ℕ) (ram : List ℕ) → length (cleared s colour depth ram) ≡ length ram
+unfolding cleared
+length-cleared s colour depth ram =
+    length-turns (λ y. upto (λ x. putPixel s x y colour depth) (width (s .size))) (height (s .size)) ram
+    (λ y k. length-turns (λ x. putPixel s x y colour depth) (width (s .size)) k (λ x l. length-putPixel s x y colour depth l))
+
+pub length-leafPut : (s : Screen) (t : Tree) (k : ℕ) (ram : List ℕ) → length (leafPut s t k ram) ≡ length ram
+unfolding leafPut
+length-leafPut s t k ram =
+    pick (λ (l : List ℕ). length l ≡ length ram) (isPut t k)
+    (λ e. pick (λ (l : List ℕ). length l ≡ length ram) (t .held)
+    (λ f. length-putPixel s _ _ _ _ ram)
+    (λ f. length-putHalf ram _ _))
+    (λ e. refl)
+
+pub length-treePut : (s : Screen) (t : Tree) (ram : List ℕ) → length (treePut s t ram) ≡ length ram
+unfolding treePut
+length-treePut s t ram = length-turns (leafPut s t) 16 ram (length-leafPut s t)
+
+pub record SameLengths (m k : Machine) : Type 0 where
+  pub memory : length (k .memory) ≡ length (m .memory)
+  pub ram : length (k .ram) ≡ length (m .ram)
+  pub registers : length (k .state .regs) ≡ length (m .state .regs)
+
+pub lengths-then : {m k l : Machine} → SameLengths m k → SameLengths k l → SameLengths m l
+lengths-then a b = record {
+  memory = b .memory ∙ a .memory;
+  ram = b .ram ∙ a .ram;
+  registers = b .registers ∙ a .registers;
+}
+
+same : (m : Machine) → SameLengths m m
+same m = record { memory = refl; ram = refl; registers = refl }
+
+effect-keeps-lengths : (m : Machine) (w : ℕ) → SameLengths m (effect m w)
+unfolding afterResult afterST afterCALL afterREAD afterWRITE afterSCRSET afterCLS afterTREESET grown afterTREEIN afterTREEVAL afterTREEPUT withRegisters withFlags withScreen withTree
+effect-keeps-lengths m w =
+    effect-has (SameLengths m) m w
+    (record {
+      onResult = record { memory = refl; ram = refl; registers = length-write (m .state .regs) _ _ };
+      onST = record { memory = length-set (m .memory) _ _; ram = refl; registers = refl };
+      onCALL = record { memory = refl; ram = refl; registers = length-write (m .state .regs) _ _ };
+      onREAD = record { memory = length-wordsRead (m .ram) _ _ (m .memory); ram = refl; registers = refl };
+      onWRITE = record { memory = refl; ram = length-wordsWritten (m .memory) _ _ (m .ram); registers = refl };
+      onSCRSET = λ e. record { memory = refl; ram = refl; registers = refl };
+      onCLS = record { memory = refl; ram = length-cleared (m .state .screen) _ _ (m .ram); registers = refl };
+      onTREESET = λ e. record { memory = refl; ram = refl; registers = refl };
+      onTREEIN = λ e. record { memory = refl; ram = refl; registers = length-write (m .state .regs) _ _ };
+      onTREEVAL = λ e. record { memory = refl; ram = refl; registers = length-write (m .state .regs) _ _ };
+      onTREEPUT = record { memory = refl; ram = length-treePut (m .state .screen) (m .state .tree) (m .ram); registers = refl };
+      onJump = same m;
+    })
+
+pub performed-keeps-lengths : (m : Machine) (w : ℕ) → SameLengths m (performed m w)
+unfolding performed withPlace
+performed-keeps-lengths m w =
+    let h : SameLengths m (effect m w) = effect-keeps-lengths m w in
+    record { memory = h .memory; ram = h .ram; registers = h .registers }
+
+pub step-keeps-lengths : (program : List ℕ) (m : Machine) → SameLengths m (step program m)
+unfolding step withHalt
+step-keeps-lengths program m =
+    pick (SameLengths m) (isHalted m) (λ e. same m)
+    (λ e. pick (SameLengths m) (eqb (nextHalt program m) 0)
+    (λ f. performed-keeps-lengths m (wordAt program (m .state)))
+    (λ f. record { memory = refl; ram = refl; registers = refl }))
+
+pub run-keeps-lengths : (program : List ℕ) (n : ℕ) (m : Machine) → SameLengths m (run program n m)
+unfolding run
+run-keeps-lengths program zero m = same m
+run-keeps-lengths program (suc n) m = lengths-then (step-keeps-lengths program m) (run-keeps-lengths program n (step program m))
+
+-- "Sixteen leaves"
+pub record Sixteen (t : Tree) : Type 0 where
+  pub marksI : length (t .inside) ≡ 16
+  pub marksO : length (t .outside) ≡ 16
+  pub colours : length (t .colour) ≡ 16
+  pub depths : length (t .depth) ≡ 16
+
+sixteen-TREESET : (column row mask : ℕ) → Sixteen (treeSet column row mask)
+unfolding treeSet
+sixteen-TREESET column row mask = record {
+  marksI = length-each (maskBit mask) 16;
+  marksO = length-each _ 16;
+  colours = length-each _ 16;
+  depths = length-each _ 16;
+}
+
+sixteen-TREEIN : (a b : ℕ) {t : Tree} → Sixteen t → Sixteen (treeIn a b t)
+unfolding treeIn marked
+sixteen-TREEIN a b h = record {
+  marksI = length-each _ 16;
+  marksO = length-each _ 16;
+  colours = h .colours;
+  depths = h .depths;
+}
+
+sixteen-TREEVAL : (part : ℕ) (s : Screen) (ram : List ℕ) (a b : ℕ) {t : Tree} → Sixteen t → Sixteen (treeVal part s ram a b t)
+unfolding treeVal treeDepth marked deepened treeColour
+sixteen-TREEVAL part s ram a b h =
+    pick Sixteen (eqb part 0)
+    (λ e. record {
+      marksI = length-each _ 16;
+      marksO = length-each _ 16;
+      colours = h .colours;
+      depths = length-each _ 16;
+    })
+    (λ e. record {
+      marksI = h .marksI;
+      marksO = h .marksO;
+      colours = length-each _ 16;
+      depths = h .depths;
+    })
+
+effect-keeps-sixteen : (m : Machine) (w : ℕ) → Sixteen (m .state .tree) → Sixteen (effect m w .state .tree)
+unfolding afterResult afterST afterCALL afterREAD afterWRITE afterSCRSET afterCLS afterTREESET grown afterTREEIN afterTREEVAL afterTREEPUT withRegisters withFlags withScreen withTree
+effect-keeps-sixteen m w h =
+    effect-has (λ k. Sixteen (k .state .tree)) m w
+    (record {
+      onResult = h;
+      onST = h;
+      onCALL = h;
+      onREAD = h;
+      onWRITE = h;
+      onSCRSET = λ e. h;
+      onCLS = h;
+      onTREESET = λ e. sixteen-TREESET _ _ _;
+      onTREEIN = λ e. sixteen-TREEIN _ _ h;
+      onTREEVAL = λ e. sixteen-TREEVAL _ _ _ _ _ h;
+      onTREEPUT = h;
+      onJump = h;
+    })
+
+pub step-keeps-sixteen : (program : List ℕ) (m : Machine)
+    → Sixteen (m .state .tree)
+    → Sixteen (step program m .state .tree)
+unfolding step performed withPlace withHalt
+step-keeps-sixteen program m h =
+    pick (λ (k : Machine). Sixteen (k .state .tree)) (isHalted m) (λ e. h)
+    (λ e. pick (λ (k : Machine). Sixteen (k .state .tree)) (eqb (nextHalt program m) 0)
+    (λ f. effect-keeps-sixteen m (wordAt program (m .state)) h)
+    (λ f. h))
+
+pub run-keeps-sixteen : (program : List ℕ) (n : ℕ) (m : Machine)
+    → Sixteen (m .state .tree)
+    → Sixteen (run program n m .state .tree)
+unfolding run
+run-keeps-sixteen program zero m h = h
+run-keeps-sixteen program (suc n) m h = run-keeps-sixteen program n (step program m) (step-keeps-sixteen program m h)

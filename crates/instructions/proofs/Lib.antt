@@ -1,0 +1,11 @@
+pub mod Picks
+pub mod Leaves
+pub mod Registers
+pub mod Halts
+pub mod Effects
+pub mod Lengths
+pub mod WellFormed
+pub mod Run
+pub mod Trees
+pub mod Unique
+pub mod Starred
