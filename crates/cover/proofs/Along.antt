@@ -21,7 +21,7 @@ use Rattle.rules.specs.Turns.{choose}
 use Rattle.rules.specs.Triangles.{Edge, dx, edge1, edge2, edge3, edgeValue, sample, keepsZero, inside, positive, isZero}
 use Rattle.rules.specs.Numbers.{vertexInRange, verticesInRange}
 use Rattle.rules.specs.declared.Triangle.{Triangle}
-use Rattle.cover.specs.Side.{sided, slope, sideAt, sideFrom, SideOf, edgeFrom, edgeInRange}
+use Rattle.cover.specs.Side.{sided, slope, sideAt, reachOf, fallOf, sideFrom, SideOf, edgeFrom, edgeInRange}
 use Rattle.cover.specs.Mask.{keeps}
 use Rattle.cover.specs.declared.Side.{Side}
 
@@ -145,6 +145,8 @@ side-of e c a b hc ha hb =
       reaches = refl;
       falls = refl;
       leaps = refl;
+      bests = refl;
+      strides = refl;
     }
 
 pub step-right : (d : Side) (x k y : ℕ) → (sideAt d x y + d .a * k % 4294967296) % 4294967296 ≡ sideAt d (x + k) y
@@ -168,45 +170,47 @@ module _ (e : Edge) (d : Side) (w : EdgeWithin e) (o : SideOf e d) where
   within : (x k y : ℕ) → pos 0 ≤ℤ sided e (x + k) y → inside e (sample (x + k) y) ≡ true
   within x k y h = inside-sided e (x + k) y ∙ le-nonNeg (sided e (x + k) y) h
 
-  top : (x y : ℕ) (b : Bool) → keeps (d .a) ≡ b → (sideAt d x y + d .reach) % 4294967296 ≡ sideAt d (x + choose b 15 0) y
-  top x y true h = rw (o .reaches, h) (step-right d x 15 y)
-  top x y false h = rw (o .reaches, h) (omega (arith, add-zero x))
+  -- n leaves on the right of pixel (x, y)
+  module _ (n x y : ℕ) where
+    top : (b : Bool) → keeps (d .a) ≡ b → (sideAt d x y + reachOf n (d .a)) % 4294967296 ≡ sideAt d (x + choose b n 0) y
+    top true h = rw h (step-right d x n y)
+    top false h = rw h (omega (arith, add-zero x))
 
-  low : (x y : ℕ) (b : Bool) → keeps (d .a) ≡ b → (sideAt d x y + d .fall) % 4294967296 ≡ sideAt d (x + choose b 0 15) y
-  low x y true h = rw (o .falls, h) (omega (arith, add-zero x))
-  low x y false h = rw (o .falls, h) (step-right d x 15 y)
+    low : (b : Bool) → keeps (d .a) ≡ b → (sideAt d x y + fallOf n (d .a)) % 4294967296 ≡ sideAt d (x + choose b 0 n) y
+    low true h = rw h (omega (arith, add-zero x))
+    low false h = rw h (step-right d x n y)
 
-  -- a group that the edge's best leaf misses is missed by all its leaves
-  pub misses : (x y : ℕ) → x + 15 ≤ 640 → y ≤ 512 → keeps ((sideAt d x y + d .reach) % 4294967296) ≡ false
-      → (k : ℕ) → k ≤ 15 → inside e (sample (x + k) y) ≡ false
-  misses x y hx hy h k hk = go (keeps (d .a)) refl
+  -- where the edge misses the best one, it misses all
+  pub misses : (n x y : ℕ) → x + n ≤ 640 → y ≤ 512 → keeps ((sideAt d x y + reachOf n (d .a)) % 4294967296) ≡ false
+      → (k : ℕ) → k ≤ n → inside e (sample (x + k) y) ≡ false
+  misses n x y hx hy h k hk = go (keeps (d .a)) refl
     where
       go : (b : Bool) → keeps (d .a) ≡ b → inside e (sample (x + k) y) ≡ false
       go true s =
-          let n : nonNeg (sided e (x + 15) y) ≡ false = sym (keeps-sided (x + 15) y hx hy) ∙ sym (ap keeps (top x y true s)) ∙ h in
-          let r : sided e (x + k) y ≤ℤ sided e (x + k + (15 - k)) y = rises e (x + k) (15 - k) y (sym keeps-slope ∙ s) in
-          let i : x + k + (15 - k) ≡ x + 15 = omega arith in
-          outside x k y (≤ℤ-<ℤ-trans (rw i at r) (nonNeg-false (sided e (x + 15) y) n))
+          let z : nonNeg (sided e (x + n) y) ≡ false = sym (keeps-sided (x + n) y hx hy) ∙ sym (ap keeps (top n x y true s)) ∙ h in
+          let r : sided e (x + k) y ≤ℤ sided e (x + k + (n - k)) y = rises e (x + k) (n - k) y (sym keeps-slope ∙ s) in
+          let i : x + k + (n - k) ≡ x + n = omega arith in
+          outside x k y (≤ℤ-<ℤ-trans (rw i at r) (nonNeg-false (sided e (x + n) y) z))
       go false s =
-          let n : nonNeg (sided e x y) ≡ false =
-          sym (keeps-sided x y (omega arith) hy) ∙ ap (λ (i : ℕ). keeps (sideAt d i y)) (sym (add-zero x)) ∙ sym (ap keeps (top x y false s)) ∙ h in
-          outside x k y (≤ℤ-<ℤ-trans (falls e x k y (sym keeps-slope ∙ s)) (nonNeg-false (sided e x y) n))
+          let z : nonNeg (sided e x y) ≡ false =
+          sym (keeps-sided x y (omega arith) hy) ∙ ap (λ (i : ℕ). keeps (sideAt d i y)) (sym (add-zero x)) ∙ sym (ap keeps (top n x y false s)) ∙ h in
+          outside x k y (≤ℤ-<ℤ-trans (falls e x k y (sym keeps-slope ∙ s)) (nonNeg-false (sided e x y) z))
 
-  -- a group whose worst leaf is inside the edge is inside with all its leaves
-  pub fills : (x y : ℕ) → x + 15 ≤ 640 → y ≤ 512 → keeps ((sideAt d x y + d .fall) % 4294967296) ≡ true
-      → (k : ℕ) → k ≤ 15 → inside e (sample (x + k) y) ≡ true
-  fills x y hx hy h k hk = go (keeps (d .a)) refl
+  -- where the worst one is inside the edge, all are
+  pub fills : (n x y : ℕ) → x + n ≤ 640 → y ≤ 512 → keeps ((sideAt d x y + fallOf n (d .a)) % 4294967296) ≡ true
+      → (k : ℕ) → k ≤ n → inside e (sample (x + k) y) ≡ true
+  fills n x y hx hy h k hk = go (keeps (d .a)) refl
     where
       go : (b : Bool) → keeps (d .a) ≡ b → inside e (sample (x + k) y) ≡ true
       go true s =
-          let n : nonNeg (sided e x y) ≡ true =
-          sym (keeps-sided x y (omega arith) hy) ∙ ap (λ (i : ℕ). keeps (sideAt d i y)) (sym (add-zero x)) ∙ sym (ap keeps (low x y true s)) ∙ h in
-          within x k y (≤ℤ-trans (nonNeg-true (sided e x y) n) (rises e x k y (sym keeps-slope ∙ s)))
+          let z : nonNeg (sided e x y) ≡ true =
+          sym (keeps-sided x y (omega arith) hy) ∙ ap (λ (i : ℕ). keeps (sideAt d i y)) (sym (add-zero x)) ∙ sym (ap keeps (low n x y true s)) ∙ h in
+          within x k y (≤ℤ-trans (nonNeg-true (sided e x y) z) (rises e x k y (sym keeps-slope ∙ s)))
       go false s =
-          let n : nonNeg (sided e (x + 15) y) ≡ true = sym (keeps-sided (x + 15) y hx hy) ∙ sym (ap keeps (low x y false s)) ∙ h in
-          let r : sided e (x + k + (15 - k)) y ≤ℤ sided e (x + k) y = falls e (x + k) (15 - k) y (sym keeps-slope ∙ s) in
-          let i : x + k + (15 - k) ≡ x + 15 = omega arith in
-          within x k y (≤ℤ-trans (nonNeg-true (sided e (x + 15) y) n) (rw i at r))
+          let z : nonNeg (sided e (x + n) y) ≡ true = sym (keeps-sided (x + n) y hx hy) ∙ sym (ap keeps (low n x y false s)) ∙ h in
+          let r : sided e (x + k + (n - k)) y ≤ℤ sided e (x + k) y = falls e (x + k) (n - k) y (sym keeps-slope ∙ s) in
+          let i : x + k + (n - k) ≡ x + n = omega arith in
+          within x k y (≤ℤ-trans (nonNeg-true (sided e (x + n) y) z) (rw i at r))
 
 -- ---- the three edges of a triangle whose vertices are in range
 

@@ -3,6 +3,7 @@ pub mod Mask
 pub mod Along
 pub mod Codes
 pub mod Leaves
+pub mod Quads
 pub mod Outside
 pub mod Raised
 pub mod Large

@@ -1,9 +1,9 @@
 -- Laws of masks: one more leaf doubles, sixteen leaves fit 16 bits, the ones of a mask are the leaves it names, and equal leaves give equal masks.
 use Prim.Native.Nat.{ℕ, zero, suc, _+_, _*_, _^_, _≤_, _<_}
-use mathlib.Core.Path.{_≡_, refl, _∙_, ap}
+use mathlib.Core.Path.{_≡_, refl, sym, _∙_, ap}
 use mathlib.Core.Bool.{Bool, true, false}
 use native.Mathlib.Numerals.{add-one}
-use native.Mathlib.Nat.{pow-suc}
+use native.Mathlib.Nat.{add-zero, pow-suc}
 use native.Mathlib.Omega.{arith}
 use lib.Count.{ones, onesIn, ones-cat}
 use lib.Pow.{pow-mono}
@@ -32,6 +32,21 @@ module _ (f : ℕ → Bool) where
   pub mask-more : (k : ℕ) → maskOf f (k + 1) ≡ maskOf f k * 2 + bit (f k)
   unfolding maskOf
   mask-more k = rw add-one
+
+  step : (i j : ℕ) → i + 1 ≡ j → maskOf f j ≡ maskOf f i * 2 + bit (f i)
+  step i j e = ap (maskOf f) (sym e) ∙ mask-more i
+
+  pub mask-four : (k : ℕ) → maskOf f (k + 4) ≡ maskOf f k * 16 + maskOf (λ i. f (k + i)) 4
+  unfolding maskOf
+  mask-four k =
+      rw add-zero
+      (omega (
+        arith,
+        step k (k + 1) (omega arith),
+        step (k + 1) (k + 2) (omega arith),
+        step (k + 2) (k + 3) (omega arith),
+        step (k + 3) (k + 4) (omega arith),
+      ))
 
   pub mask-none : maskOf f 0 ≡ 0
   unfolding maskOf

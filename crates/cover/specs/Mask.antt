@@ -1,5 +1,5 @@
 -- Masks of a group's leaves, leaf 0 in the top bit, and the values of the three sides as they step to the right.
-use Prim.Native.Nat.{ℕ, zero, suc, _+_, _*_, _%_, _≤_}
+use Prim.Native.Nat.{ℕ, zero, suc, _+_, _*_, _%_, _≤_, _<_}
 use mathlib.Core.Path.{_≡_}
 use mathlib.Core.Bool.{Bool, true, _&&_}
 use lib.Dec.{ltb}
@@ -41,10 +41,19 @@ keptAfter v right k = allKept (after v right k)
 abbrev pub leafInside : Triangle → ℕ → ℕ → ℕ → Bool
 leafInside t x y k = insideAll t (sample (x + k) y)
 
--- v holds the values at pixel (x, y), the first of a group, of the triangle's sides d
-pub record GroupAt (t : Triangle) (x y : ℕ) (v : Values) (d : Sides) : Type 0 where
+-- v holds the values at pixel (x, y), with n leaves to its right, of the triangle's sides d
+pub record LeavesAt (n : ℕ) (t : Triangle) (x y : ℕ) (v : Values) (d : Sides) : Type 0 where
   pub in-range : verticesInRange t ≡ true
   pub sides : SidesOf t d
-  pub column : x + 15 ≤ 640
+  pub column : x + n ≤ 640
   pub row : y ≤ 512
   pub values : v ≡ valuesAt d x y
+
+-- the first pixel of a group
+abbrev pub GroupAt : Triangle → ℕ → ℕ → Values → Sides → Type 0
+GroupAt t x y v d = LeavesAt 15 t x y v d
+
+-- m is the mask of the four leaves from v on
+pub record QuadMask (v : Values) (d : Sides) (m : ℕ) : Type 0 where
+  pub four : m < 16
+  pub names : (t : Triangle) (x y : ℕ) → LeavesAt 3 t x y v d → m ≡ maskOf (leafInside t x y) 4

@@ -30,23 +30,34 @@ slope e = pos 0 -ℤ pos 8 *ℤ dy e
 abbrev pub sideAt : Side → ℕ → ℕ → ℕ
 sideAt d x y = (d .c + d .a * x + d .b * y) % 4294967296
 
--- the most and the least that the steps to the fifteen leaves on the right add, a standing for a negative number from 2^31 on
-abbrev pub reachOf : ℕ → ℕ
-reachOf a = choose (ltb a 2147483648) (a * 15 % 4294967296) 0
+-- the most and the least that the steps to the n leaves on the right add, a standing for a negative number from 2^31 on
+abbrev pub reachOf : ℕ → ℕ → ℕ
+reachOf n a = choose (ltb a 2147483648) (a * n % 4294967296) 0
 
-abbrev pub fallOf : ℕ → ℕ
-fallOf a = choose (ltb a 2147483648) 0 (a * 15 % 4294967296)
+abbrev pub fallOf : ℕ → ℕ → ℕ
+fallOf n a = choose (ltb a 2147483648) 0 (a * n % 4294967296)
 
 abbrev pub sideFrom : ℕ → ℕ → ℕ → Side
 sideFrom c a b =
-    record { c = c; a = a; b = b; reach = reachOf a; fall = fallOf a; leap = a * 16 % 4294967296 }
+    record {
+      c = c;
+      a = a;
+      b = b;
+      reach = reachOf 15 a;
+      fall = fallOf 15 a;
+      leap = a * 16 % 4294967296;
+      best = reachOf 3 a;
+      stride = a * 4 % 4294967296;
+    }
 
 pub record SideOf (e : Edge) (d : Side) : Type 0 where
   pub here : (x y : ℕ) → sideAt d x y ≡ mod32 (sided e x y)
   pub right : d .a ≡ mod32 (slope e)
-  pub reaches : d .reach ≡ reachOf (d .a)
-  pub falls : d .fall ≡ fallOf (d .a)
+  pub reaches : d .reach ≡ reachOf 15 (d .a)
+  pub falls : d .fall ≡ fallOf 15 (d .a)
   pub leaps : d .leap ≡ d .a * 16 % 4294967296
+  pub bests : d .best ≡ reachOf 3 (d .a)
+  pub strides : d .stride ≡ d .a * 4 % 4294967296
 
 abbrev pub valuesFrom : ℕ → ℕ → ℕ → Values
 valuesFrom a b c = record { p = a; q = b; r = c }
@@ -61,19 +72,48 @@ sidesFrom p q r =
       reach = record { p = p .reach; q = q .reach; r = r .reach };
       fall = record { p = p .fall; q = q .fall; r = r .fall };
       leap = record { p = p .leap; q = q .leap; r = r .leap };
+      best = record { p = p .best; q = q .best; r = r .best };
+      stride = record { p = p .stride; q = q .stride; r = r .stride };
     }
 
 abbrev pub first : Sides → Side
 first d =
-    record { c = d .c .p; a = d .a .p; b = d .b .p; reach = d .reach .p; fall = d .fall .p; leap = d .leap .p }
+    record {
+      c = d .c .p;
+      a = d .a .p;
+      b = d .b .p;
+      reach = d .reach .p;
+      fall = d .fall .p;
+      leap = d .leap .p;
+      best = d .best .p;
+      stride = d .stride .p;
+    }
 
 abbrev pub second : Sides → Side
 second d =
-    record { c = d .c .q; a = d .a .q; b = d .b .q; reach = d .reach .q; fall = d .fall .q; leap = d .leap .q }
+    record {
+      c = d .c .q;
+      a = d .a .q;
+      b = d .b .q;
+      reach = d .reach .q;
+      fall = d .fall .q;
+      leap = d .leap .q;
+      best = d .best .q;
+      stride = d .stride .q;
+    }
 
 abbrev pub third : Sides → Side
 third d =
-    record { c = d .c .r; a = d .a .r; b = d .b .r; reach = d .reach .r; fall = d .fall .r; leap = d .leap .r }
+    record {
+      c = d .c .r;
+      a = d .a .r;
+      b = d .b .r;
+      reach = d .reach .r;
+      fall = d .fall .r;
+      leap = d .leap .r;
+      best = d .best .r;
+      stride = d .stride .r;
+    }
 
 pub record SidesOf (t : Triangle) (d : Sides) : Type 0 where
   pub of1 : SideOf (edge1 t) (first d)

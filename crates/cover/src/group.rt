@@ -7,7 +7,7 @@ ghost use mathlib.Core.Path.{_≡_};
 ghost use Prim.Native.Nat.{ℕ};
 ghost use Rattle.rules.specs.declared.Triangle.{Triangle};
 ghost use Rattle.rules.specs.Turns.{bit};
-ghost use Rattle.cover.specs.Mask.{valuesAt, moved, allKept, maskOf, keptAfter, leafInside, GroupAt};
+ghost use Rattle.cover.specs.Mask.{valuesAt, moved, allKept, maskOf, keptAfter, leafInside, GroupAt, QuadMask};
 
 // The three values at pixel (x, y), modulo 2^32.
 pub fn values_at(d: Sides, x: u32, y: u32) -> Values
@@ -47,17 +47,46 @@ pub fn kept(v: Values) -> u32
     1
 }
 
-// The mask of the sixteen leaves from v on, each by itself: 1 where all three values are kept, leaf 0 in the top bit.
-pub fn leaf_by_leaf(v: Values, right: Values) -> u16
-    ensures { λ r. ⌜ r ≡ maskOf (keptAfter v right) 16 ⌝ }
+// The mask of the four leaves from v on, each by itself: 1 where all three values are kept, leaf 0 in the top bit.
+fn leaf_by_leaf(v: Values, right: Values) -> u32
+    ensures { λ r. ⌜ r ≡ maskOf (keptAfter v right) 4 ⌝ }
 {
     let mut at = v;
     let mut mask: u32 = 0;
     let mut k: u32 = 0;
-    while k < 16 {
+    while k < 4 {
         mask = mask * 2 + kept(at);
         at = plus(at, right);
         k += 1;
+    }
+    mask
+}
+
+// The mask of the four leaves that start at these values.
+fn quad_mask(v: Values, d: Sides) -> u32
+    ensures { λ r. ⌜ QuadMask v d r ⌝ }
+{
+    // none where some edge misses even their best one
+    let best = d.best;
+    if kept(plus(v, best)) == 0 {
+        return 0;
+    }
+    let right = d.a;
+    leaf_by_leaf(v, right)
+}
+
+// The mask of the group that starts at these values, four leaves at a time.
+fn quad_by_quad(v: Values, d: Sides) -> u16
+    ensures { λ r. ⌜ ((t : Triangle) (x y : ℕ) → GroupAt t x y v d → r ≡ maskOf (leafInside t x y) 16) ⌝ }
+{
+    let stride = d.stride;
+    let mut at = v;
+    let mut mask: u32 = 0;
+    let mut k: u32 = 0;
+    while k < 16 {
+        mask = mask * 16 + quad_mask(at, d);
+        at = plus(at, stride);
+        k += 4;
     }
     mask as u16
 }
@@ -76,6 +105,5 @@ pub fn group_mask(v: Values, d: Sides) -> u16
     if kept(plus(v, fall)) == 1 {
         return 65535;
     }
-    let right = d.a;
-    leaf_by_leaf(v, right)
+    quad_by_quad(v, d)
 }

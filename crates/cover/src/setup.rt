@@ -48,12 +48,14 @@ pub fn side(x1: i32, y1: i32, x2: i32, y2: i32) -> Side
     stepping(c, a, b)
 }
 
-// A side with what its leaves add: reach where a is not negative, else fall.
+// A side with what its leaves add: reach and best where a is not negative, else fall.
 fn stepping(c: u32, a: u32, b: u32) -> Side
     ensures { λ r. ⌜ r ≡ sideFrom c a b ⌝ }
 {
     let across = product32(a, 15);
     let leap = product32(a, 16);
+    let near = product32(a, 3);
+    let stride = product32(a, 4);
     if a < 2147483648 {
         return Side {
             c,
@@ -62,6 +64,8 @@ fn stepping(c: u32, a: u32, b: u32) -> Side
             reach: across,
             fall: 0,
             leap,
+            best: near,
+            stride,
         };
     }
     Side {
@@ -71,6 +75,8 @@ fn stepping(c: u32, a: u32, b: u32) -> Side
         reach: 0,
         fall: across,
         leap,
+        best: 0,
+        stride,
     }
 }
 
@@ -96,6 +102,8 @@ fn together(p: Side, q: Side, r: Side) -> Sides
         reach: three(p.reach, q.reach, r.reach),
         fall: three(p.fall, q.fall, r.fall),
         leap: three(p.leap, q.leap, r.leap),
+        best: three(p.best, q.best, r.best),
+        stride: three(p.stride, q.stride, r.stride),
     }
 }
 

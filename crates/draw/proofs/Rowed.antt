@@ -1,6 +1,6 @@
 -- The loop over a row's groups: what holds before group g, that it holds at the first touched group, that one group more keeps it, and that the
 -- row is drawn once its groups are done or, since its covered pixels have no gap, once a group ends the run.
-use Prim.Native.Nat.{ℕ, zero, suc, _+_, _*_, _-_, _%_, _≤_, _<_}
+use Prim.Native.Nat.{ℕ, zero, suc, _+_, _*_, _-_, _≤_, _<_}
 use mathlib.Core.Path.{_≡_, refl, sym, _∙_, ap, ap₂, subst}
 use mathlib.Core.Bool.{Bool, true, false, not, _&&_}
 use mathlib.Core.List.{List}
@@ -17,13 +17,11 @@ use Rattle.rules.specs.Triangles.{sample, insideAll, covered, written, pixelDra
 use Rattle.rules.proofs.Turns.{upto-add, upto-still, howMany-add, howMany-none, howMany-same, howMany-some, howMany-rest, howMany-nothing}
 use Rattle.rules.proofs.Pixels.{Sound, On, and-l, and-r, sound-facts, width-le, height-le}
 use Rattle.rules.proofs.Drawing.{length-pixels, written-left}
-use Rattle.cover.specs.declared.Side.{Side}
 use Rattle.cover.specs.declared.Sides.{Sides}
 use Rattle.cover.specs.declared.Values.{Values}
-use Rattle.cover.specs.Side.{SideOf, SidesOf, sideAt, first, second, third}
 use Rattle.cover.specs.Mask.{GroupAt, leafInside, maskOf, valuesAt, moved}
 use Rattle.cover.proofs.Mask.{mask-same}
-use Rattle.cover.proofs.Along.{step-right}
+use Rattle.cover.proofs.Leaves.{leaped}
 use Rattle.cover.proofs.Unbroken.{past-run}
 use Rattle.draw.specs.declared.Counts.{Counts}
 use Rattle.draw.specs.Leaves.{GroupOn, GroupDone}
@@ -54,19 +52,6 @@ module _ (t : Triangle) (s : Screen) (n x y : ℕ) (o : GroupOn n s x y) where
         covers = sym (howMany-none (λ k. covered t s (x + k) y) 16 none);
         draws = record { counts = sym (none-written s t x y m 16 none); leaves = sym (stretch-still s t x y m 16 none) };
       }
-
--- a leap of sixteen
-leap-one : (e : Side) (x y : ℕ) → e .leap ≡ e .a * 16 % 4294967296 → (sideAt e x y + e .leap) % 4294967296 ≡ sideAt e (x + 16) y
-leap-one e x y h = ap (λ (n : ℕ). (sideAt e x y + n) % 4294967296) h ∙ step-right e x 16 y
-
-pub leaped : (t : Triangle) (d : Sides) (x y : ℕ) → SidesOf t d → moved (valuesAt d x y) (d .leap) ≡ valuesAt d (x + 16) y
-leaped t d x y o =
-    λ i.
-    record {
-      p = leap-one (first d) x y (o .of1 .leaps) i;
-      q = leap-one (second d) x y (o .of2 .leaps) i;
-      r = leap-one (third d) x y (o .of3 .leaps) i;
-    }
 
 pub record Across (m₀ : List ℕ) (s : Screen) (t : Triangle) (d : Sides) (y b : ℕ) (m : List ℕ) (g : ℕ) (v : Values) (c w : ℕ) : Type 0 where
   pub before-end : g ≤ b
@@ -121,17 +106,11 @@ module _ (m₀ : List ℕ) (s : Screen) (t : Triangle) (d : Sides) (y a b : ℕ)
     across-more h r m′ k =
         let x = g * 16 in
         let e : x + 16 ≡ (g + 1) * 16 = omega arith in
-        let o = q .sides in
         record {
           before-end = omega arith;
           is-values =
               ap (λ (z : Values). moved z (d .leap)) (u .is-values)
-              ∙ (λ i.
-              record {
-                p = leap-one (first d) x y (o .of1 .leaps) i;
-                q = leap-one (second d) x y (o .of2 .leaps) i;
-                r = leap-one (third d) x y (o .of3 .leaps) i;
-              })
+              ∙ leaped (q .sides) x y
               ∙ ap (λ (n : ℕ). valuesAt d n y) e;
           is-memory =
               k .draws .leaves

@@ -6,3 +6,4 @@ pub mod Area
 pub mod Rows
 pub mod Starred
 pub mod Unique
+pub mod Client

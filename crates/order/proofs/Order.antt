@@ -176,7 +176,7 @@ module _ (s : Screen) (m : List ℕ) (h : sound (length m) s ≡ true) where
 
 -- the same of calls: each triangle is accepted at its first call
 
-accepted-sound : (n : ℕ) (s : Screen) (t : Triangle) → triangleNumber n s t ≡ 0 → sound n s ≡ true
+pub accepted-sound : (n : ℕ) (s : Screen) (t : Triangle) → triangleNumber n s t ≡ 0 → sound n s ≡ true
 unfolding triangleNumber
 accepted-sound n s t e = go (tooLong n) (sound n s) _ e
   where
@@ -186,7 +186,7 @@ accepted-sound n s t e = go (tooLong n) (sound n s) _ e
     go false false r e = absurd (omega arith)
 
 module _ {s : Screen} where
-  accepted-drawn : {m after : List ℕ} {t : Triangle} {r : Drawn}
+  pub accepted-drawn : {m after : List ℕ} {t : Triangle} {r : Drawn}
       → Draws m s t r after
       → triangleNumber (length m) s t ≡ 0
       → after ≡ drawn t s m

@@ -11,10 +11,10 @@ use Rattle.cover.proofs.group.leaf_by_leaf.Tie as tie
 
 abbrev Inv-loop : tie.InvT-loop
 Inv-loop right at₀ mask₀ k₀ at mask k =
-    (k ≤ 16) × (at ≡ after at₀ right k) × (mask ≡ maskOf (keptAfter at₀ right) k)
+    (k ≤ 4) × (at ≡ after at₀ right k) × (mask ≡ maskOf (keptAfter at₀ right) k)
 
 abbrev μ-loop : tie.MeasureT-loop
-μ-loop right at₀ mask₀ k₀ at mask k = 16 - k
+μ-loop right at₀ mask₀ k₀ at mask k = 4 - k
 
 loop-holds : tie.Need-loop-holds Inv-loop μ-loop
 loop-holds c = (omega arith, sym (after-none (c .args .v) (c .args .right)), sym (mask-none (keptAfter (c .args .v) (c .args .right))))
@@ -24,7 +24,7 @@ mul-mask c =
     omega (
       arith,
       c .before .loop .inv .2,
-      mask-small (keptAfter (c .before .before .args .v) (c .before .before .args .right)) (c .before .loop .k) (c .before .loop .inv .0),
+      mask-small (keptAfter (c .before .before .args .v) (c .before .before .args .right)) (c .before .loop .k) (omega (arith, c .before .loop .inv .0)),
     )
 
 kept-requires : tie.Need-kept-requires Inv-loop μ-loop
@@ -35,7 +35,7 @@ add-mask c =
     omega (
       arith,
       c .before .before .loop .inv .2,
-      mask-small (keptAfter (c .before .before .before .args .v) (c .before .before .before .args .right)) (c .before .before .loop .k) (c .before .before .loop .inv .0),
+      mask-small (keptAfter (c .before .before .before .args .v) (c .before .before .before .args .right)) (c .before .before .loop .k) (omega (arith, c .before .before .loop .inv .0)),
       c .kept .ensures,
       bit-le (allKept (c .before .before .loop .at)),
     )
@@ -61,18 +61,10 @@ loop-again c =
           ∙ sym (mask-more (keptAfter v right) (l .k)),
     )
 
-cast-result : tie.Need-cast-result Inv-loop μ-loop
-cast-result c =
-    omega (
-      arith,
-      c .before .loop .inv .2,
-      mask-small (keptAfter (c .before .before .args .v) (c .before .before .args .right)) (c .before .loop .k) (c .before .loop .inv .0),
-    )
-
 returns : tie.Need-returns Inv-loop μ-loop
 returns c =
     let l = c .before .loop in
-    let e : l .k ≡ 16 = omega arith in
+    let e : l .k ≡ 4 = omega arith in
     l .inv .2 ∙ ap (maskOf (keptAfter (c .before .before .args .v) (c .before .before .args .right))) e
 
 pub leaf-by-leaf-spec : {M : Type 1} → statement M
@@ -89,5 +81,4 @@ leaf-by-leaf-spec =
     add-k
     loop-less
     loop-again
-    cast-result
     returns)

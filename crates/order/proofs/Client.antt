@@ -1,0 +1,79 @@
+-- From the calls' contracts alone: what every pixel holds after a call, and that a sound screen stays sound, so that a client chains calls
+-- of any number. The last theorem is such a chain, a clear and a triangle.
+use Prim.Native.Nat.{ℕ, _<_}
+use mathlib.Core.Path.{_≡_, refl, sym, _∙_, ap, subst}
+use mathlib.Core.Logic.{_≢_}
+use mathlib.Core.Bool.{Bool, true, false, not}
+use mathlib.Core.List.{List}
+use native.Mathlib.Omega.{arith}
+use lib.Dec.{eqb}
+use lib.ListN.{length}
+use borrow.Author.Tests.{ne-eqb}
+use Rattle.rules.specs.declared.Screen.{Screen}
+use Rattle.rules.specs.declared.Triangle.{Triangle}
+use Rattle.rules.specs.declared.Drawn.{Drawn}
+use Rattle.rules.specs.Turns.{choose}
+use Rattle.rules.specs.Sizes.{width, height, colourAt, sound, half}
+use Rattle.rules.specs.Triangles.{written, triangleColour, triangleDepth, drawn}
+use Rattle.rules.specs.Numbers.{tooLong, clearNumber, triangleNumber}
+use Rattle.rules.specs.Calls.{Clears, Draws, accepted, cleared}
+use Rattle.order.specs.Pointwise.{Painted}
+use Rattle.order.proofs.Order.{accepted-sound, accepted-drawn}
+use Rattle.order.proofs.Pointwise.{drawn-pointwise, cleared-pointwise, painted-colour}
+
+kept-when : {A : Type 0} (n : ℕ) (done kept : A) → n ≢ 0 → accepted n done kept ≡ kept
+kept-when n done kept h = rw (ne-eqb n 0 h)
+
+clear-sound : (n : ℕ) (s : Screen) → clearNumber n s ≡ 0 → sound n s ≡ true
+unfolding clearNumber
+clear-sound n s e = go (tooLong n) (sound n s) e
+  where
+    go : (a b : Bool) → _≡_ {A = ℕ} (choose a 3 (choose (not b) 5 0)) 0 → b ≡ true
+    go true b h = absurd (omega arith)
+    go false true h = refl
+    go false false h = absurd (omega arith)
+
+module _ {m after : List ℕ} {s : Screen} {t : Triangle} {r : Drawn} (d : Draws m s t r after) where
+  pub draw-refused : r .number ≢ 0 → after ≡ m
+  draw-refused h = d .leaves ∙ kept-when (triangleNumber (length m) s t) (drawn t s m) m (λ e. h (d .answers ∙ e))
+
+  pub draw-paints : r .number ≡ 0 → Painted s (written t s m) (triangleColour t) (triangleDepth t) m after
+  draw-paints e =
+      let z : triangleNumber (length m) s t ≡ 0 = sym (d .answers) ∙ e in
+      subst (Painted s (written t s m) (triangleColour t) (triangleDepth t) m) (sym (accepted-drawn d z))
+      (drawn-pointwise s m (accepted-sound (length m) s t z) t)
+
+  pub draw-sound : r .number ≡ 0 → sound (length after) s ≡ true
+  draw-sound e =
+      subst (λ (n : ℕ). sound n s ≡ true) (sym (draw-paints e .same-length))
+      (accepted-sound (length m) s t (sym (d .answers) ∙ e))
+
+module _ {m after : List ℕ} {s : Screen} {colour depth n : ℕ} (d : Clears m s colour depth n after) where
+  pub clear-refused : n ≢ 0 → after ≡ m
+  clear-refused h = d .leaves ∙ kept-when (clearNumber (length m) s) (cleared s colour depth m) m (λ e. h (d .answers ∙ e))
+
+  pub clear-paints : n ≡ 0 → Painted s (λ x y. true) (λ x y. colour) (λ x y. depth) m after
+  clear-paints e =
+      let z : clearNumber (length m) s ≡ 0 = sym (d .answers) ∙ e in
+      subst (Painted s (λ x y. true) (λ x y. colour) (λ x y. depth) m)
+      (sym (d .leaves ∙ ap (λ k. accepted k (cleared s colour depth m) m) z))
+      (cleared-pointwise s m (clear-sound (length m) s z) colour depth)
+
+  pub clear-keeps-sound : n ≡ 0 → sound (length after) s ≡ true
+  clear-keeps-sound e =
+      subst (λ (k : ℕ). sound k s ≡ true) (sym (clear-paints e .same-length))
+      (clear-sound (length m) s (sym (d .answers) ∙ e))
+
+-- a clear, then a triangle: a pixel's colour is the triangle's where it is written, else the clear's
+pub clear-then-draw : {m k l : List ℕ} {s : Screen} {colour depth n : ℕ} {t : Triangle} {r : Drawn}
+    → Clears m s colour depth n k
+    → Draws k s t r l
+    → n ≡ 0
+    → r .number ≡ 0
+    → (x y : ℕ)
+    → x < width (s .size)
+    → y < height (s .size)
+    → half l (colourAt s x y) ≡ choose (written t s k x y) (triangleColour t x y) colour
+clear-then-draw {s = s} {colour} {t = t} c d p q x y h v =
+    painted-colour (draw-paints d q) x y h v
+    ∙ ap (choose (written t s _ x y) (triangleColour t x y)) (painted-colour (clear-paints c p) x y h v)
