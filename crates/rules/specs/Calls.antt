@@ -1,8 +1,8 @@
 -- What each call leaves: its number, its counts and every byte of the lent memory. "Every number but 0 comes with counts of 0 ..
 -- and all lent memory as it was."
-use Prim.Native.Nat.{ℕ, _+_, _*_}
+use Prim.Native.Nat.{ℕ, _*_}
 use mathlib.Core.Path.{_≡_}
-use mathlib.Core.List.{List, []}
+use mathlib.Core.List.{List}
 use lib.ListN.{length, take, drop}
 use lib.Dec.{eqb}
 use Rattle.rules.specs.declared.Screen.{Screen}

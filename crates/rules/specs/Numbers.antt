@@ -1,7 +1,7 @@
 -- 01, "Numbers a call answers": for each kind of call the lowest number that applies.
 use Prim.Native.Nat.{ℕ}
 use mathlib.Core.Bool.{Bool, _&&_, _||_, not}
-use lib.Dec.{leb, ltb}
+use lib.Dec.{ltb}
 use lib.IntN.{ℤ, pos, negsuc}
 use lib.Signed.{leZ}
 use Rattle.rules.specs.declared.Screen.{Screen}
