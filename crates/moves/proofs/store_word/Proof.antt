@@ -1,0 +1,32 @@
+-- `store_word` leaves `putWord`: it stores two half-words, which is the definition. Assumes nothing.
+use Prim.Native.Nat.{_+_, _%_}
+use mathlib.Core.Path.{_∙_, ap}
+use borrow.Author.Needs.{needs}
+use Rattle.rules.specs.Sizes.{putHalf}
+use Rattle.instructions.specs.Moves.{putWord}
+use Rattle.moves.proofs.store_word.Statement.{statement}
+use Rattle.moves.proofs.store_word.Tie as tie
+
+store-half-requires : tie.Need-store-half-requires
+store-half-requires c κs = search needs
+
+add-store-half : tie.Need-add-store-half
+add-store-half c = search needs
+
+store-half-requires-2 : tie.Need-store-half-requires-2
+store-half-requires-2 c κs = search needs
+
+same-length : tie.Need-same-length
+same-length c = search needs
+
+returns : tie.Need-returns
+unfolding putWord
+returns c =
+    let a = c .before .before .before .before .before .before .before .before .before .args in
+    c .before .before .store-half2 .ensures
+    ∙ ap (λ m. putHalf m (a .a + 2) (a .v % 65536)) (c .before .before .before .before .before .before .store-half .ensures)
+
+pub store-word-spec : {M : Type 1} → statement M
+store-word-spec =
+    tie.close
+    (tie.spec store-half-requires add-store-half store-half-requires-2 same-length returns)
