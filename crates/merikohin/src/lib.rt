@@ -1,4 +1,7 @@
 // The calls as C and Rust link them: include/merikohin.h declares each.
+use border::LentState;
+use border::lent_state;
+use border::state_of;
 use rules::Drawn;
 use rules::Screen;
 use rules::Triangle;
@@ -8,6 +11,7 @@ ghost use lib.ListN.{length};
 ghost use Rattle.rules.specs.Calls.{Clears, Draws};
 ghost use Rattle.rules.specs.Numbers.{rowNumber};
 ghost use Rattle.screen.specs.Rows.{Locates};
+ghost use Rattle.merikohin.specs.Lends.{Lends, RunsLent};
 
 #[no_mangle]
 pub extern "C" fn merikohin_clear(ram: &mut [u8], s: Screen, colour: u16, depth: u16) -> u32
@@ -35,4 +39,39 @@ pub extern "C" fn merikohin_row(ram: &[u8], s: Screen, row: u32) -> RowPart
     ensures { λ r. ⌜ Locates (length (now (ram .entry))) s row r ⌝ }
 {
     screen::rows::row_part(ram, s, row)
+}
+
+// What a run answers: its number, the steps carried out, and the state.
+#[repr(C)]
+pub struct LentRan {
+    pub number: u32,
+    pub steps: u64,
+    pub state: LentState,
+}
+
+#[no_mangle]
+pub extern "C" fn merikohin_fresh() -> LentState
+    ensures { λ r. ⌜ Lends r ⌝ }
+{
+    lent_state(machine::calls::fresh())
+}
+
+#[no_mangle]
+pub extern "C" fn merikohin_run(
+    program: &[u32],
+    memory: &mut [u32],
+    ram: &mut [u8],
+    state: LentState,
+    budget: u64,
+) -> LentRan
+    ensures { λ r. ⌜ RunsLent (now (program .entry)) budget state (now (memory .entry)) (now (ram .entry)) r (now (memory .exit)) (now (ram .exit)) ⌝ }
+{
+    let ran = machine::calls::run_machine(program, memory, ram, state_of(state), budget);
+    let last = ran.state;
+    let state = lent_state(last);
+    LentRan {
+        number: ran.number,
+        steps: ran.steps,
+        state,
+    }
 }

@@ -157,7 +157,7 @@ impl fmt::Display for Case {
     }
 }
 
-fn numbers<T: std::str::FromStr>(text: &str, count: usize) -> Result<Vec<T>, String> {
+pub fn numbers<T: std::str::FromStr>(text: &str, count: usize) -> Result<Vec<T>, String> {
     let found: Vec<T> = text
         .split(',')
         .map(|word| word.trim().parse::<T>().map_err(|_| format!("not a fitting number: {word}")))
@@ -166,6 +166,18 @@ fn numbers<T: std::str::FromStr>(text: &str, count: usize) -> Result<Vec<T>, Str
         Ok(found)
     } else {
         Err(format!("{count} numbers wanted: {text}"))
+    }
+}
+
+impl std::str::FromStr for Fill {
+    type Err = String;
+
+    fn from_str(text: &str) -> Result<Fill, String> {
+        match text.split_once(':') {
+            Some(("random", seed)) => Ok(Fill::Random(numbers(seed, 1)?[0])),
+            Some(("byte", byte)) => Ok(Fill::Byte(numbers(byte, 1)?[0])),
+            _ => Err(format!("fill is random:N or byte:N: {text}")),
+        }
     }
 }
 
@@ -182,13 +194,7 @@ impl std::str::FromStr for Case {
                 match (place, name) {
                     (0, "ram") => case.ram = numbers(value, 1)?[0],
                     (0, "lead") => case.lead = numbers(value, 1)?[0],
-                    (0, "fill") => {
-                        case.fill = match value.split_once(':') {
-                            Some(("random", seed)) => Fill::Random(numbers(seed, 1)?[0]),
-                            Some(("byte", byte)) => Fill::Byte(numbers(byte, 1)?[0]),
-                            _ => return Err(format!("fill is random:N or byte:N: {value}")),
-                        }
-                    }
+                    (0, "fill") => case.fill = value.parse()?,
                     (1.., "screen") => {
                         let n = numbers::<u32>(value, 3)?;
                         screen = Some(Screen { colour: n[0], depth: n[1], size: n[2] });

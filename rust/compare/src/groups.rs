@@ -128,7 +128,7 @@ fn table(run: &mut Run, rng: &mut Rng) {
     }
 }
 
-const DEMONSTRATION: &str = "\
+pub const DEMONSTRATION: &str = "\
 1111000000000000
 1112000000000000
 1122000000000000

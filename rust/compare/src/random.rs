@@ -99,7 +99,7 @@ pub fn triangle(rng: &mut Rng, width: i64, height: i64) -> Triangle {
 }
 
 /// A size number in range.
-fn random_size(rng: &mut Rng) -> u32 {
+pub fn random_size(rng: &mut Rng) -> u32 {
     let groups = rng.pick(&[1, 1, 1, 2, 2, 3, 4]);
     let height = match rng.next() % 8 {
         0 => 1,
@@ -112,7 +112,7 @@ fn random_size(rng: &mut Rng) -> u32 {
 
 /// A sound screen for a RAM this long, if one fits at all: touching or apart,
 /// in both orders.
-fn sound_screen(rng: &mut Rng, s: u32, ram: usize) -> Screen {
+pub fn sound_screen(rng: &mut Rng, s: u32, ram: usize) -> Screen {
     let bytes = i64::from(area(s));
     let room = ram as i64 - 2 * bytes;
     let mut spare = || {

@@ -2,16 +2,22 @@
 
 use crate::case::Case;
 use crate::check::{check, Answer, Memories};
+use crate::machine;
 use crate::rng::Rng;
 use crate::shrink::shrink;
 use crate::subject::Subject;
+use merikohin::Ran;
 
 pub struct Run {
     pub subject: Subject,
     pub seed: u64,
     /// Calls the group of random calls makes at least.
     pub calls: u64,
-    /// Minutes the group of random calls takes at least.
+    /// Programs of 1,000 steps or more the group of long random programs runs
+    /// at least.
+    pub programs: u64,
+    /// Minutes the group of random calls takes at least, and the group of long
+    /// random programs.
     pub minutes: u64,
     /// Print each case before it is run.
     pub trace: bool,
@@ -20,6 +26,7 @@ pub struct Run {
     /// Mismatches shown in full in each group.
     pub shown_at_most: u64,
     pub memories: Memories,
+    pub machine_memories: machine::check::Memories,
     pub comparisons: u64,
     pub mismatches: u64,
     /// Names of the groups in which something mismatched.
@@ -35,11 +42,13 @@ impl Run {
             subject,
             seed,
             calls: 100_000,
+            programs: 10_000,
             minutes: 0,
             trace: false,
             quiet: false,
             shown_at_most: 3,
             memories: Memories::default(),
+            machine_memories: machine::check::Memories::default(),
             comparisons: 0,
             mismatches: 0,
             caught_by: Vec::new(),
@@ -115,6 +124,58 @@ impl Run {
                 last.number, last.covered, last.written
             )
         });
+    }
+
+    /// Runs a case of the machine; every run in it is one comparison. Hands
+    /// back the subject's answers if none differed.
+    pub fn machine(&mut self, case: &machine::case::Case) -> Option<Vec<Ran>> {
+        if self.trace {
+            eprintln!("{case}");
+        }
+        let checked = machine::check::check(self.subject, case, &mut self.machine_memories);
+        self.comparisons += checked.answers.len() as u64;
+        match checked.difference {
+            None => Some(checked.answers),
+            Some(difference) => {
+                if self.mismatch() {
+                    let smallest = machine::shrink(self.subject, case, &mut self.machine_memories);
+                    let again = machine::check::check(self.subject, &smallest, &mut self.machine_memories).difference;
+                    let (run, text) = again.map_or((difference.run, difference.text), |d| (d.run, d.text));
+                    let option = self.subject.option();
+                    println!("mismatch in \"{}\", seed {}, found with:", self.group, self.seed);
+                    println!("  compare{option} --case '{case}'");
+                    println!("the smallest found, run {} of {}:", run + 1, smallest.runs.len());
+                    println!("  compare{option} --case '{smallest}'");
+                    print!("{text}");
+                }
+                None
+            }
+        }
+    }
+
+    /// Runs a case of the machine and also wants what its last run answers: a
+    /// number, and the steps and the halt number where they are given. Hands
+    /// back that answer if nothing differed.
+    pub fn machine_wants(
+        &mut self,
+        case: &machine::case::Case,
+        number: u32,
+        steps: Option<u64>,
+        halt: Option<u32>,
+    ) -> Option<Ran> {
+        let answers = self.machine(case)?;
+        let last = answers[answers.len() - 1];
+        let holds = last.number == number
+            && steps.is_none_or(|steps| last.steps == steps)
+            && halt.is_none_or(|halt| last.state.halt == halt);
+        let option = self.subject.option();
+        self.holds(holds, || {
+            format!(
+                "wanted number {number}, steps {steps:?}, halt {halt:?}; answered {}, {}, {}\n  compare{option} --case '{case}'",
+                last.number, last.steps, last.state.halt
+            )
+        });
+        holds.then_some(last)
     }
 
     /// One more comparison: something document 01 says outright.

@@ -58,7 +58,7 @@ fn cost(case: &Case) -> u128 {
     sum
 }
 
-fn smaller(value: i64) -> Vec<i64> {
+pub fn smaller(value: i64) -> Vec<i64> {
     let mut found = vec![0, value / 2, value / 8 * 8, value / 65536 * 65536, value - value.signum() * 8];
     found.push(value - value.signum());
     found.retain(|v| v.abs() < value.abs() && v.signum() * value.signum() >= 0);

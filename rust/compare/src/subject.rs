@@ -2,9 +2,12 @@
 //! comparison can fail) a deliberately wrong variant of the second program.
 
 use crate::case::{second_screen, second_triangle};
-use merikohin::{Drawn, Screen, Triangle};
+use crate::machine::broken;
+use crate::machine::case::plain_state;
+use merikohin::{Drawn, Ran, Screen, State, Triangle};
 
-/// The slips a wrong variant can have.
+/// The slips a wrong variant can have: four of the drawing, the others of the
+/// machine.
 #[derive(Clone, Copy, Debug, PartialEq, Eq)]
 pub enum Slip {
     /// An edge value of zero counts as inside for every edge.
@@ -16,13 +19,53 @@ pub enum Slip {
     Count,
     /// A refused clear or triangle changes a byte.
     RefusalWrites,
+    /// DOT adds four products before the shift.
+    DotSum,
+    /// TREEIN and TREEVAL use the new r1 for the leaves.
+    NewR1,
+    /// TREEIN and TREEVAL add r2 to r1 sixteen times, also when they are one
+    /// register.
+    SameRegister,
+    /// TREEVAL 0 is judged against the depth the leaf holds, where it holds one.
+    OldDepth,
+    /// The flags stay when R0 is the target.
+    R0Flags,
+    /// MULF rounds toward zero.
+    MulfTowardZero,
+    /// READ and WRITE clear the zero flag.
+    TransferFlags,
+    /// SCRSET keeps a tree that fits on the new screen.
+    TreeKept,
+    /// CALL puts the next place in R31 before address is worked out.
+    LinkFirst,
+    /// READ and WRITE look at the RAM address first.
+    HaltOrder,
+    /// A run works on its first step and idles afterwards.
+    Idle,
 }
 
-pub const SLIPS: [(&str, Slip); 4] = [
+impl Slip {
+    pub fn of_the_machine(self) -> bool {
+        !matches!(self, Slip::Ties | Slip::SignedDepth | Slip::Count | Slip::RefusalWrites)
+    }
+}
+
+pub const SLIPS: [(&str, Slip); 15] = [
     ("ties", Slip::Ties),
     ("signed-depth", Slip::SignedDepth),
     ("count", Slip::Count),
     ("refusal-writes", Slip::RefusalWrites),
+    ("dot-sum", Slip::DotSum),
+    ("new-r1", Slip::NewR1),
+    ("same-register", Slip::SameRegister),
+    ("old-depth", Slip::OldDepth),
+    ("r0-flags", Slip::R0Flags),
+    ("mulf-toward-zero", Slip::MulfTowardZero),
+    ("transfer-flags", Slip::TransferFlags),
+    ("tree-kept", Slip::TreeKept),
+    ("link-first", Slip::LinkFirst),
+    ("halt-order", Slip::HaltOrder),
+    ("idle", Slip::Idle),
 ];
 
 #[derive(Clone, Copy, Debug, PartialEq, Eq)]
@@ -110,6 +153,20 @@ impl Subject {
                 let (start, length) = part_of(ram, part);
                 RowSeen { number, start: start as u64, length: length as u64, part: Some((start, length)) }
             }
+        }
+    }
+
+    pub fn fresh(self) -> State {
+        match self {
+            Subject::Engine => merikohin::fresh(),
+            Subject::Broken(_) => plain_state(&second::machine::fresh()),
+        }
+    }
+
+    pub fn run(self, program: &[u32], data: &mut [u32], ram: &mut [u8], state: State, budget: u64) -> Ran {
+        match self {
+            Subject::Engine => merikohin::run(program, data, ram, state, budget),
+            Subject::Broken(slip) => broken::run(slip, program, data, ram, state, budget),
         }
     }
 }

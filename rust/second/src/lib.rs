@@ -3,7 +3,10 @@
 //! It says document 01 (exact rules) once more, independently of the engine
 //! and in 01's order and words, as plainly as possible: one loop over every
 //! pixel of the screen, numbers wide enough never to overflow, no shortcuts.
-//! It is there to be compared with the engine, not to be fast.
+//! It is there to be compared with the engine, not to be fast. The drawing is
+//! here; the machine is in [`machine`].
+
+pub mod machine;
 
 // ---------------------------------------------------------------------------
 // 01, "Sizes"

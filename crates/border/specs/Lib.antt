@@ -1,0 +1,2 @@
+-- The state as C has it.
+pub mod Lent

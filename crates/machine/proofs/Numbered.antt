@@ -1,0 +1,52 @@
+-- The numbers of a run: what is refused stays as it was, and what none refuses runs.
+use Prim.Native.Nat.{ℕ, _≤_}
+use mathlib.Core.Path.{_≡_, refl, sym, _∙_, ap}
+use mathlib.Core.Logic.{_≢_}
+use mathlib.Core.List.{List}
+use mathlib.Core.Bool.{false, not}
+use lib.ListN.{length}
+use lib.Dec.{ltb, eqb}
+use borrow.Author.Tests.{ltb-false, eqb-true, ne-eqb, not-false}
+use Rattle.rules.specs.Sizes.{ramLimit}
+use Rattle.rules.specs.Numbers.{tooLong}
+use Rattle.rules.specs.Turns.{choose}
+use Rattle.instructions.specs.Step.{Machine}
+use Rattle.instructions.specs.Run.{run, steps, illFormed, machineNumber, runNumber}
+use Rattle.instructions.specs.Calls.{Runs}
+use Rattle.instructions.proofs.Picks.{no-row}
+use Rattle.machine.specs.Runs.{Ready, Ends}
+
+module _ (program : List ℕ) (m : Machine) where
+  pub accepted-ready : runNumber program m ≡ 0 → Ready program m
+  unfolding machineNumber
+  accepted-ready e =
+      let (a, e1) = no-row 0 (ltb 1024 (length program)) e in
+      let (b, e2) = no-row 1 (not (eqb (length (m .memory)) 1024)) e1 in
+      let (c, e3) = no-row 2 (tooLong (length (m .ram))) e2 in
+      let (d, e4) = no-row 3 (illFormed (length (m .ram)) (m .state)) e3 in
+      record {
+        short = ltb-false 1024 (length program) a;
+        size = eqb-true (length (m .memory)) 1024 (not-false (eqb (length (m .memory)) 1024) b);
+        limit = ltb-false ramLimit (length (m .ram)) c;
+        wellFormed = d;
+      }
+
+  module _ (budget number : ℕ) (h : number ≡ runNumber program m) where
+    pub runs-refused : number ≢ 0 → Runs program budget m number 0 m
+    runs-refused d =
+        let f : eqb (runNumber program m) 0 ≡ false = ap (λ (n : ℕ). eqb n 0) (sym h) ∙ ne-eqb number 0 d in
+        record { answers = h; counts = rw f; leaves = rw f }
+
+    pub runs-done : (first final after : Machine) (count : ℕ)
+        → number ≡ 0
+        → first ≡ m
+        → after ≡ final
+        → Ends program budget first count final
+        → Runs program budget m number count after
+    runs-done first final after count z hf ha e =
+        let n : runNumber program m ≡ 0 = sym h ∙ z in
+        record {
+          answers = h;
+          counts = rw n (e .counts ∙ ap (steps program budget) hf);
+          leaves = rw n (ha ∙ e .leaves ∙ ap (run program budget) hf);
+        }

@@ -1,0 +1,12 @@
+-- The fields are those of the definition.
+use mathlib.Core.Path.{refl}
+use Rattle.instructions.specs.Run.{freshState}
+use Rattle.machine.proofs.calls.fresh.Statement.{statement}
+use Rattle.machine.proofs.calls.fresh.Tie as tie
+
+returns : tie.Need-returns
+unfolding freshState
+returns c = record { fresh = refl }
+
+pub fresh-spec : {M : Type 1} → statement M
+fresh-spec = tie.close (tie.spec returns)

@@ -1,0 +1,131 @@
+// The machine's calls: a fresh state, whether a state is ill-formed, and a run.
+use crate::parts::cpu_of;
+use crate::parts::state_of;
+use crate::parts::view_of;
+use crate::running::run;
+use instructions::State;
+use instructions::Tree;
+use rules::Screen;
+use screen::sizes::sound;
+use screen::sizes::too_long;
+use tree::refuses;
+ghost use mathlib.Core.Path.{_≡_};
+ghost use Rattle.instructions.specs.Run.{illFormed, machineNumber};
+ghost use Rattle.instructions.specs.Calls.{Fresh, Runs};
+ghost use Rattle.machine.specs.Parts.{together};
+
+// What a run answers: its number, the steps carried out, and the state.
+#[repr(C)]
+pub struct Ran {
+    pub number: u32,
+    pub steps: u64,
+    pub state: State,
+}
+
+pub fn fresh() -> State
+    ensures { λ r. ⌜ Fresh r ⌝ }
+{
+    let regs = [0u32; 32];
+    let marks = [false; 16];
+    let halves = [0u16; 16];
+    let screen = Screen {
+        colour: 0,
+        depth: 0,
+        size: 0,
+    };
+    let tree = Tree {
+        column: 0,
+        row: 0,
+        inside: marks,
+        outside: marks,
+        colour: halves,
+        depth: halves,
+        held: false,
+    };
+    State {
+        regs,
+        place: 0,
+        negative: false,
+        zero: false,
+        halt: 0,
+        shown: false,
+        screen,
+        planted: false,
+        tree,
+    }
+}
+
+// `len` is that of the RAM.
+pub fn ill_formed(len: usize, state: State) -> bool
+    ensures { λ r. ⌜ r ≡ illFormed len state ⌝ }
+{
+    let screen = state.screen;
+    let tree = state.tree;
+    let regs = state.regs;
+    let halt = state.halt;
+    let known = (halt == 0) | (11 <= halt) & (halt <= 17);
+    let unsound = !sound(len, screen);
+    let refused = refuses(screen, tree.column, tree.row);
+    (regs[0] != 0)
+        | !known
+        | state.shown & unsound
+        | state.planted & !state.shown
+        | state.planted & refused
+}
+
+// The lowest number that applies.
+fn machine_number(program: usize, memory: usize, ram: usize, state: State) -> u32
+    ensures { λ r. ⌜ r ≡ machineNumber program memory ram state ⌝ }
+{
+    if 1024 < program {
+        return 1;
+    }
+    if memory != 1024 {
+        return 2;
+    }
+    if too_long(ram) {
+        return 3;
+    }
+    if ill_formed(ram, state) {
+        return 4;
+    }
+    0
+}
+
+// At most `budget` steps. A number other than 0 leaves the state and all memory as they were.
+pub fn run_machine(
+    program: &[u32],
+    memory: &mut [u32],
+    ram: &mut [u8],
+    state: State,
+    budget: u64,
+) -> Ran
+    ensures { λ r. ⌜ Runs (now (program .entry)) budget (together state (now (memory .entry)) (now (ram .entry))) (r .number) (r .steps) (together (r .state) (now (memory .exit)) (now (ram .exit))) ⌝ }
+{
+    let number = machine_number(program.len(), memory.len(), ram.len(), state);
+    if number != 0 {
+        return Ran {
+            number,
+            steps: 0,
+            state,
+        };
+    }
+    let mut regs = state.regs;
+    let end = run(
+        program,
+        &mut regs,
+        memory,
+        ram,
+        cpu_of(state),
+        view_of(state),
+        budget,
+    );
+    let cpu = end.cpu;
+    let view = end.view;
+    let last = state_of(regs, cpu, view);
+    Ran {
+        number,
+        steps: end.steps,
+        state: last,
+    }
+}

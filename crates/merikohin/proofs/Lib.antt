@@ -1,0 +1,3 @@
+-- What the machine's calls over a lent state rest on, and that they leave no second outcome.
+pub mod Lends
+pub mod Unique

@@ -1,0 +1,99 @@
+//! The second program's machine with one slip: it is run one step at a time,
+//! and the slip is put into the steps it concerns.
+
+use super::case::{plain_state, second_state};
+use super::words::fields;
+use crate::subject::Slip;
+use merikohin::{Ran, State};
+use second::machine::{self, leaf_value, ASRI, CALL, DOT, LD, MULF, READ, SCRSET, ST, TREEIN, TREEVAL, WRITE};
+
+pub fn run(slip: Slip, program: &[u32], data: &mut [u32], ram: &mut [u8], given: State, allowed: u64) -> Ran {
+    let given = second_state(&given);
+    let refused = machine::run_number(program.len(), data.len(), ram.len(), &given) != 0;
+    if refused || !slip.of_the_machine() {
+        let ran = machine::run(program, data, ram, &given, allowed);
+        return Ran { number: ran.number, steps: ran.steps, state: plain_state(&ran.state) };
+    }
+    let mut state = given;
+    let mut steps = 0;
+    while steps < allowed && state.halt == 0 {
+        if slip == Slip::Idle && steps > 0 {
+            steps = allowed;
+            break;
+        }
+        let before = state;
+        let word = program.get(before.place as usize).copied().unwrap_or(u32::MAX);
+        let (opcode, r1, r2, r3, _) = fields(word);
+        let (v1, v2) = (before.registers[r1], before.registers[r2]);
+        let in_tree = opcode == TREEIN || opcode == TREEVAL;
+
+        // The step itself, from a state that a slip may have changed.
+        let mut entry = before;
+        if slip == Slip::NewR1 && in_tree && r1 != 0 {
+            entry.registers[r1] = leaf_value(v1, v2, 16);
+        }
+        let ran = machine::run(program, data, ram, &entry, 1);
+        steps += ran.steps;
+        state = ran.state;
+        if ran.steps == 0 {
+            // It halted.
+            state = machine::State { halt: ran.state.halt, ..before };
+            let address = before.registers[r2];
+            let also_16 = address % 4 != 0 || u64::from(address) + 64 > ram.len() as u64;
+            if slip == Slip::HaltOrder && state.halt == 15 && also_16 {
+                state.halt = 16;
+            }
+            continue;
+        }
+
+        match slip {
+            Slip::DotSum if opcode == DOT => {
+                let (first, second) = (v2 as usize, before.registers[r3] as usize);
+                let product = |k: usize| i128::from(data[first + k] as i32) * i128::from(data[second + k] as i32);
+                let sum: i128 = (0..4).map(product).sum();
+                result(&mut state, r1, (sum >> 16) as u32);
+            }
+            Slip::MulfTowardZero if opcode == MULF => {
+                let product = i64::from(v2 as i32) * i64::from(before.registers[r3] as i32);
+                result(&mut state, r1, (product / 65536) as u32);
+            }
+            Slip::R0Flags if r1 == 0 && ((LD..=ASRI).contains(&opcode) && opcode != ST || opcode == DOT) => {
+                (state.negative, state.zero) = (before.negative, before.zero);
+            }
+            Slip::NewR1 if in_tree && r1 != 0 => state.registers[r1] = leaf_value(v1, v2, 16),
+            Slip::SameRegister if in_tree && r1 == r2 => state.registers[r1] = v1 << 16,
+            Slip::OldDepth if opcode == TREEVAL => {
+                if let (Some(old), Some(new)) = (before.tree, &mut state.tree) {
+                    for (old, new) in old.leaves.iter().zip(&mut new.leaves) {
+                        if let (Some(was), Some(is), true) = (old.depth, new.depth, word & 0xffff == 0) {
+                            new.inside = old.inside && is <= was;
+                            new.outside = old.outside || is > was;
+                        }
+                    }
+                }
+            }
+            Slip::TreeKept if opcode == SCRSET => {
+                state.tree = before.tree;
+                if machine::ill_formed(ram.len(), &state) {
+                    state.tree = None;
+                }
+            }
+            Slip::LinkFirst if opcode == CALL && r2 == 31 => {
+                state.place = state.place.wrapping_sub(v2).wrapping_add(before.place + 1);
+            }
+            Slip::TransferFlags if opcode == READ || opcode == WRITE => {
+                state.zero = false;
+            }
+            _ => {}
+        }
+    }
+    Ran { number: 0, steps, state: plain_state(&state) }
+}
+
+fn result(state: &mut machine::State, register: usize, value: u32) {
+    if register != 0 {
+        state.registers[register] = value;
+    }
+    state.negative = (value as i32) < 0;
+    state.zero = value == 0;
+}

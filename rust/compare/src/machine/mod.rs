@@ -1,0 +1,15 @@
+//! The machine: its cases, their comparison with the second program, and the
+//! groups of cases.
+
+pub mod broken;
+pub mod case;
+pub mod check;
+pub mod groups;
+mod long;
+mod parts;
+mod samples;
+mod shrink;
+mod states;
+mod words;
+
+pub use shrink::shrink;
