@@ -8,4 +8,3 @@ pub mod WellFormed
 pub mod Run
 pub mod Trees
 pub mod Unique
-pub mod Starred

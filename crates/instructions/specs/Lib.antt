@@ -1,4 +1,4 @@
--- Document 01's machine: its words and instructions, the tree, the halts; then the step, the run, the calls and the starred cases.
+-- Document 01's machine: its words and instructions, the tree, the halts; then the step, the run and the calls.
 pub mod Opcodes
 pub mod Words
 pub mod Arithmetic
@@ -9,4 +9,3 @@ pub mod Halts
 pub mod Step
 pub mod Run
 pub mod Calls
-pub mod Starred

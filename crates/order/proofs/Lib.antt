@@ -4,6 +4,5 @@ pub mod Sides
 pub mod CommonEdge
 pub mod Area
 pub mod Rows
-pub mod Starred
 pub mod Unique
 pub mod Client

@@ -1,0 +1,40 @@
+-- What the starred triangles give: pixels covered on the screen of 16 by 4.
+use Prim.Native.Nat.{ℕ}
+use mathlib.Core.Bool.{_&&_}
+use lib.IntN.{ℤ, pos}
+use Rattle.rules.specs.declared.Screen.{Screen}
+use Rattle.rules.specs.declared.Plane.{Plane}
+use Rattle.rules.specs.declared.Triangle.{Triangle}
+use Rattle.rules.specs.Turns.{pixels}
+use Rattle.rules.specs.Sizes.{width, height}
+use Rattle.rules.specs.Triangles.{covered, coveredPixels}
+
+-- "Screen 16 by 4"
+abbrev pub screen16by4 : Screen
+screen16by4 = record { colour = 0; depth = 128; size = 516 }
+
+abbrev pub noPlane : Plane
+noPlane = record { c = pos 0; a = pos 0; b = pos 0 }
+
+abbrev pub corners : ℕ → ℕ → ℕ → ℕ → ℕ → ℕ → Triangle
+corners x1 y1 x2 y2 x3 y3 = record {
+  x1 = pos x1;
+  y1 = pos y1;
+  x2 = pos x2;
+  y2 = pos y2;
+  x3 = pos x3;
+  y3 = pos y3;
+  depth = noPlane;
+  red = noPlane;
+  green = noPlane;
+  blue = noPlane;
+}
+
+-- how many pixels of the screen the triangle covers, and how many both cover
+abbrev pub covers : Triangle → ℤ
+covers t = pos (coveredPixels t screen16by4)
+
+abbrev pub bothCover : Triangle → Triangle → ℤ
+bothCover t u =
+    pos
+    (pixels (λ x y. covered t screen16by4 x y && covered u screen16by4 x y) (width (screen16by4 .size)) (height (screen16by4 .size)))

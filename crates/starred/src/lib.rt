@@ -1,0 +1,1 @@
+// Document 01's starred cases, over its definitions. There is no code here.
