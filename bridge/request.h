@@ -1,0 +1,33 @@
+/* What the two sides of the bridge share: one file mapped by both. A call's
+ * arguments and answer stand at its start, then come the program and the data
+ * memory; the RAM ends where the file ends, so a touch beyond it is a fault. */
+#ifndef REQUEST_H
+#define REQUEST_H
+
+#include "merikohin.h"
+
+enum { CLEAR, DRAW, ROW_CHECK, ROW, FRESH, RUN };
+
+struct request {
+    uint64_t program_len, memory_len, ram_len, budget;
+    merikohin_screen screen;
+    merikohin_triangle triangle;
+    merikohin_state state;
+    uint32_t call, row;
+    uint16_t colour, depth;
+    uint32_t number;
+    merikohin_drawn drawn;
+    merikohin_row_part part;
+    merikohin_ran ran;
+};
+
+/* Where things stand in the file, in bytes. */
+enum { PROGRAM = 4096, MEMORY = 1 << 22, WORDS_END = 1 << 23, AREA = 1 << 26 };
+
+_Static_assert(sizeof(struct request) <= PROGRAM, "the request has its own page");
+
+/* The descriptors of the far side: the file, where requests come from, where
+ * answers go. */
+enum { FILE_FD = 3, ASKED_FD = 4, ANSWERED_FD = 5 };
+
+#endif
