@@ -188,8 +188,7 @@ pub fn second_state(s: &State) -> second::machine::State {
         colour: s.tree.colour[k],
         depth: (s.tree.held != 0).then_some(s.tree.depth[k]),
     };
-    let tree =
-        second::machine::Tree { column: s.tree.column, row: s.tree.row, leaves: std::array::from_fn(leaf) };
+    let tree = second::machine::Tree { column: s.tree.column, row: s.tree.row, leaves: std::array::from_fn(leaf) };
     second::machine::State {
         registers: s.regs,
         place: s.place,

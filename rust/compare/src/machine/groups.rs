@@ -301,8 +301,25 @@ fn addresses(run: &mut Run, rng: &mut Rng) {
 
 /// 13: "a DOT start above 1,020"; "DOT at 1,020 runs, at 1,021 halts."
 fn dot_starts(run: &mut Run, rng: &mut Rng) {
-    let starts =
-        [0u32, 1, 2, 3, 4, 1016, 1017, 1019, 1020, 1021, 1022, 1023, 1024, 1 << 31, u32::MAX - 3, u32::MAX - 2, u32::MAX];
+    let starts = [
+        0u32,
+        1,
+        2,
+        3,
+        4,
+        1016,
+        1017,
+        1019,
+        1020,
+        1021,
+        1022,
+        1023,
+        1024,
+        1 << 31,
+        u32::MAX - 3,
+        u32::MAX - 2,
+        u32::MAX,
+    ];
     for first in starts {
         for second in starts {
             let halt = if first > 1020 || second > 1020 { 13 } else { 0 };
@@ -735,7 +752,8 @@ fn one_word(word: u32, state: State) -> Case {
 /// "Shift amounts are the low five bits of r3 or imm (house). ASR keeps the
 /// sign."
 fn shifts(run: &mut Run, rng: &mut Rng) {
-    let values = [0u32, 1, 2, 3, 0x8000_0000, 0x8000_0001, 0xc000_0000, 0x7fff_ffff, u32::MAX, 0x1234_5678, 0xfedc_ba98];
+    let values =
+        [0u32, 1, 2, 3, 0x8000_0000, 0x8000_0001, 0xc000_0000, 0x7fff_ffff, u32::MAX, 0x1234_5678, 0xfedc_ba98];
     let high = [0u32, 32, 64, 96, 0x8000, 0xffe0, 0xffff_ffe0, 1 << 31, 1 << 16];
     for a in values {
         for low in 0..32u32 {
@@ -770,7 +788,8 @@ fn shifted(run: &mut Run, case: &Case, wanted: u32) {
 /// "R0 is always 0, and a write to it is lost"; r1 = r2, r1 = r3, r2 = r3.
 fn same_registers(run: &mut Run, rng: &mut Rng) {
     for opcode in 0..=40u32 {
-        for registers in [(0, 1, 2), (0, 0, 1), (0, 1, 0), (0, 0, 0), (1, 1, 2), (1, 2, 1), (1, 2, 2), (1, 1, 1), (31, 31, 31)]
+        for registers in
+            [(0, 1, 2), (0, 0, 1), (0, 1, 0), (0, 0, 0), (1, 1, 2), (1, 2, 1), (1, 2, 2), (1, 1, 1), (31, 31, 31)]
         {
             for _ in 0..12 {
                 let (n1, n2, n3) = registers;
@@ -970,7 +989,10 @@ fn leaves(run: &mut Run, rng: &mut Rng) {
         let (value, by) = match rng.next() % 3 {
             // Around a bit of the top half, or any.
             0 => (rng.next() as u32, rng.between(-70_000, 70_000) as u32),
-            1 => ((rng.between(0, 70) as u32) << 16 | rng.pick(&[0, 1, 0xffff]), rng.pick(&[0, 1, 65535, 65536, u32::MAX])),
+            1 => (
+                (rng.between(0, 70) as u32) << 16 | rng.pick(&[0, 1, 0xffff]),
+                rng.pick(&[0, 1, 65535, 65536, u32::MAX]),
+            ),
             _ => leaf_values(rng),
         };
         let (r1, r2) = rng.pick(&[(1, 2), (1, 2), (1, 2), (1, 1), (0, 2), (1, 0)]);
@@ -1087,7 +1109,8 @@ fn budgets(run: &mut Run, rng: &mut Rng) {
     // A program that halts after so many steps, with budgets around that count
     // and far above it.
     for length in [0u64, 1, 2, 17, 1023, 1024] {
-        let program: Vec<u32> = (0..length as usize).map(|at| if at % 3 == 0 { rri(LI, 1, 1, 1) } else { idle(at) }).collect();
+        let program: Vec<u32> =
+            (0..length as usize).map(|at| if at % 3 == 0 { rri(LI, 1, 1, 1) } else { idle(at) }).collect();
         let mut budgets = vec![length, length + 1, length + 2, 1 << 31, (1 << 32) - 1, 1 << 32, (1 << 32) + 1];
         budgets.extend([1 << 33, 1 << 62, (1 << 63) - 1, 1 << 63, (1 << 63) + 1, u64::MAX - 1, u64::MAX]);
         budgets.extend(length.checked_sub(1));
@@ -1120,8 +1143,7 @@ fn splits(run: &mut Run, rng: &mut Rng) {
         let one = Case { runs: vec![total], ..whole.clone() };
         let Some(answers) = run.machine(&one) else { continue };
         let (steps, state) = (answers[0].steps, second_state(&answers[0].state));
-        let (data, ram) =
-            (run.machine_memories.subject_data().to_vec(), run.machine_memories.subject_ram().to_vec());
+        let (data, ram) = (run.machine_memories.subject_data().to_vec(), run.machine_memories.subject_ram().to_vec());
         let any = rng.next() % (total + 1);
         let m = rng.pick(&[0, 1, total / 2, total, total.saturating_sub(1), any, any, any]).min(total);
         let mut parts = vec![m, total - m];
@@ -1135,8 +1157,7 @@ fn splits(run: &mut Run, rng: &mut Rng) {
         let sum: u64 = answers.iter().map(|ran| ran.steps).sum();
         let last = second_state(&answers[answers.len() - 1].state);
         let memories = &run.machine_memories;
-        let holds =
-            sum == steps && last == state && memories.subject_data() == data && memories.subject_ram() == ram;
+        let holds = sum == steps && last == state && memories.subject_data() == data && memories.subject_ram() == ram;
         run.holds(holds, || format!("{split}: ends otherwise than one run of {total} steps"));
     }
 }

@@ -323,11 +323,8 @@ pub fn program(rng: &mut Rng) -> Long {
     // Two screens, the second at least as large as the first.
     let (groups, height) = (rng.pick(&[1u32, 1, 2, 4]), rng.pick(&[1u32, 2, 4, 4, 8]));
     let first = size(groups, height);
-    let second = if rng.chance(2) {
-        first
-    } else {
-        size(groups + rng.between(0, 1) as u32, height + rng.between(0, 3) as u32)
-    };
+    let second =
+        if rng.chance(2) { first } else { size(groups + rng.between(0, 1) as u32, height + rng.between(0, 3) as u32) };
     let ram = 2 * area(second) as usize + rng.pick(&[0usize, 1, 2, 63, 64, 200, 700]);
     let screens = [sound_screen(rng, first, ram), sound_screen(rng, second, ram)];
     let reach = (ram as u32 - 60).next_power_of_two();
@@ -351,8 +348,7 @@ pub fn program(rng: &mut Rng) -> Long {
     let target = rng.between(1_100, 2_400) as u64;
     let words_at_most = rng.pick(&[60usize, 120, 120, 250, 900]);
     let fresh = rng.chance(2);
-    let mut maker =
-        Maker { rng, program: Program::default(), screens, routines: Vec::new(), steps: 0, danger };
+    let mut maker = Maker { rng, program: Program::default(), screens, routines: Vec::new(), steps: 0, danger };
     let mut state = FRESH;
     if fresh {
         // The constants by LI, the free registers by LD and by what they meet.

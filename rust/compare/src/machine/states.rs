@@ -13,7 +13,14 @@ use second::machine::{ADD, CLS, DATA_WORDS, JMP, ST, TREEPUT, WRITE};
 
 /// A program that would change everything it can: registers, data memory, RAM.
 fn busy(length: usize) -> Vec<u32> {
-    let words = [rri(ST, 1, 0, 5), rrr(WRITE, 0, 0, 0), rrr(CLS, 1, 2, 0), rrr(TREEPUT, 0, 0, 0), rrr(ADD, 1, 1, 1), to(JMP, 0)];
+    let words = [
+        rri(ST, 1, 0, 5),
+        rrr(WRITE, 0, 0, 0),
+        rrr(CLS, 1, 2, 0),
+        rrr(TREEPUT, 0, 0, 0),
+        rrr(ADD, 1, 1, 1),
+        to(JMP, 0),
+    ];
     (0..length).map(|at| words[at % words.len()]).collect()
 }
 
@@ -94,7 +101,8 @@ fn given(rng: &mut Rng) -> Vec<Given> {
     push(FRESH, 0, true);
 
     // Halt numbers.
-    for halt in (0..=300).chain([65536, 65536 + 11, 65536 + 12, 1 << 24, 1 << 31, (1 << 31) + 12, u32::MAX - 11, u32::MAX])
+    for halt in
+        (0..=300).chain([65536, 65536 + 11, 65536 + 12, 1 << 24, 1 << 31, (1 << 31) + 12, u32::MAX - 11, u32::MAX])
     {
         let well = halt == 0 || (11..=17).contains(&halt);
         push(State { halt, ..state_in(rng, 256) }, 256, well);
@@ -172,7 +180,8 @@ fn given(rng: &mut Rng) -> Vec<Given> {
     for (groups, height) in [(1u32, 1u32), (1, 4), (2, 3), (40, 1)] {
         let (screen, ram) = tight(size(groups, height));
         let w = groups * 16;
-        let columns = [0, 1, 8, 15, 16, 17, 32, w - 16, w - 15, w - 1, w, w + 16, 640, 65536, 1 << 31, u32::MAX - 15, u32::MAX];
+        let columns =
+            [0, 1, 8, 15, 16, 17, 32, w - 16, w - 15, w - 1, w, w + 16, 640, 65536, 1 << 31, u32::MAX - 15, u32::MAX];
         let rows = [0, 1, height - 1, height, height + 1, 480, 511, 512, 65536, 1 << 31, u32::MAX];
         for column in columns {
             for row in rows {
