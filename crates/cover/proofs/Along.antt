@@ -214,10 +214,17 @@ module _ (e : Edge) (d : Side) (w : EdgeWithin e) (o : SideOf e d) where
 
 -- ---- the three edges of a triangle whose vertices are in range
 
-pub edges-in-range : (t : Triangle) → verticesInRange t ≡ true
-    → (edgeInRange (edge1 t) ≡ true) × (edgeInRange (edge2 t) ≡ true) × (edgeInRange (edge3 t) ≡ true)
+pub record Six (t : Triangle) : Type 0 where
+  pub in-x1 : vertexInRange (t .x1) ≡ true
+  pub in-y1 : vertexInRange (t .y1) ≡ true
+  pub in-x2 : vertexInRange (t .x2) ≡ true
+  pub in-y2 : vertexInRange (t .y2) ≡ true
+  pub in-x3 : vertexInRange (t .x3) ≡ true
+  pub in-y3 : vertexInRange (t .y3) ≡ true
+
+pub six : (t : Triangle) → verticesInRange t ≡ true → Six t
 unfolding verticesInRange
-edges-in-range t h =
+six t h =
     let X1 = vertexInRange (t .x1) in
     let Y1 = vertexInRange (t .y1) in
     let X2 = vertexInRange (t .x2) in
@@ -228,7 +235,13 @@ edges-in-range t h =
     let d = and-true {a = X1 && Y1 && X2} {b = Y2} (e .0) in
     let c = and-true {a = X1 && Y1} {b = X2} (d .0) in
     let b = and-true {a = X1} {b = Y1} (c .0) in
-    (rw (b .0, b .1, c .1, d .1), rw (c .1, d .1, e .1, f .1), rw (e .1, f .1, b .0, b .1))
+    record { in-x1 = b .0; in-y1 = b .1; in-x2 = c .1; in-y2 = d .1; in-x3 = e .1; in-y3 = f .1 }
+
+pub edges-in-range : (t : Triangle) → verticesInRange t ≡ true
+    → (edgeInRange (edge1 t) ≡ true) × (edgeInRange (edge2 t) ≡ true) × (edgeInRange (edge3 t) ≡ true)
+edges-in-range t h =
+    let s = six t h in
+    (rw (s .in-x1, s .in-y1, s .in-x2, s .in-y2), rw (s .in-x2, s .in-y2, s .in-x3, s .in-y3), rw (s .in-x3, s .in-y3, s .in-x1, s .in-y1))
 
 -- an edge as a callee reads it, from the machine's words
 abbrev pub read : Edge → Edge

@@ -2,7 +2,7 @@
 use Prim.Native.Nat.{ℕ, _+_, _*_, _/_, _≤_, _<_}
 use mathlib.Core.Path.{_≡_, sym, _∙_, ap, subst}
 use mathlib.Core.Logic.{_⊎_, inl, inr}
-use mathlib.Core.Bool.{Bool, true, false, _&&_}
+use mathlib.Core.Bool.{Bool, true, false}
 use native.Mathlib.Omega.{arith}
 use lib.IntN.{ℤ, pos}
 use lib.Signed.{_<ℤ_, <ℤ-≤ℤ-trans}
@@ -13,9 +13,9 @@ use Rattle.ints.proofs.Order.{pos-le, ≤ℤ-<ℤ-trans}
 use Rattle.ints.proofs.Bounds.{fits-32}
 use Rattle.rules.specs.declared.Triangle.{Triangle}
 use Rattle.rules.specs.Triangles.{sample, insideAll}
-use Rattle.rules.specs.Numbers.{vertexInRange, verticesInRange}
+use Rattle.rules.specs.Numbers.{vertexInRange}
 use Rattle.cover.specs.Extent.{Before, Beyond}
-use Rattle.cover.proofs.Along.{and-true, vertex-within}
+use Rattle.cover.proofs.Along.{vertex-within}
 use Rattle.cover.proofs.Outside.{left-of, right-of, above, below}
 
 -- the sample point lies in its pixel
@@ -43,29 +43,6 @@ module _ (t : Triangle) (x y : ℕ) where
   row-beyond b = below t (sample x y) (after-start y (b .first)) (after-start y (b .second)) (after-start y (b .third))
 
 -- ---- the six numbers, read back from the machine's words
-
-pub record Six (t : Triangle) : Type 0 where
-  pub in-x1 : vertexInRange (t .x1) ≡ true
-  pub in-y1 : vertexInRange (t .y1) ≡ true
-  pub in-x2 : vertexInRange (t .x2) ≡ true
-  pub in-y2 : vertexInRange (t .y2) ≡ true
-  pub in-x3 : vertexInRange (t .x3) ≡ true
-  pub in-y3 : vertexInRange (t .y3) ≡ true
-
-pub six : (t : Triangle) → verticesInRange t ≡ true → Six t
-unfolding verticesInRange
-six t h =
-    let X1 = vertexInRange (t .x1) in
-    let Y1 = vertexInRange (t .y1) in
-    let X2 = vertexInRange (t .x2) in
-    let Y2 = vertexInRange (t .y2) in
-    let X3 = vertexInRange (t .x3) in
-    let f = and-true {a = X1 && Y1 && X2 && Y2 && X3} {b = vertexInRange (t .y3)} h in
-    let e = and-true {a = X1 && Y1 && X2 && Y2} {b = X3} (f .0) in
-    let d = and-true {a = X1 && Y1 && X2} {b = Y2} (e .0) in
-    let c = and-true {a = X1 && Y1} {b = X2} (d .0) in
-    let b = and-true {a = X1} {b = Y1} (c .0) in
-    record { in-x1 = b .0; in-y1 = b .1; in-x2 = c .1; in-y2 = d .1; in-x3 = e .1; in-y3 = f .1 }
 
 pub read-vertex : (v : ℤ) → vertexInRange v ≡ true → toZ w32 (ofZ w32 v) ≡ v
 read-vertex v h = toZ-ofZ w32 v (fits-32 (vertex-within v h) (omega arith))

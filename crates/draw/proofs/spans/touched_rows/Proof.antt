@@ -5,7 +5,8 @@ use mathlib.Core.Logic.{_⊎_, ⊎-elim}
 use mathlib.Core.Bool.{true, false}
 use native.Mathlib.Omega.{arith}
 use Rattle.rules.specs.Triangles.{sample, insideAll}
-use Rattle.draw.proofs.Touch.{six, still-in, read-before, read-beyond, column-before, column-beyond, row-before, row-beyond}
+use Rattle.cover.proofs.Along.{six}
+use Rattle.draw.proofs.Touch.{still-in, read-before, read-beyond, row-before, row-beyond}
 use borrow.Author.Needs.{needs}
 use Rattle.draw.proofs.spans.touched_rows.Statement.{statement}
 use Rattle.draw.proofs.spans.touched_rows.Tie as tie
