@@ -156,10 +156,11 @@ merikohin_state merikohin_fresh(void);
  * TREESET place refused, TREEIN, TREEVAL or TREEPUT with no tree, TREEVAL with
  * imm above 3. Answers 0 with the steps carried out and the state they lead
  * to, or 1 (program too long), 2 (data memory not 1,024 words), 3 (RAM too
- * long) or 4 (state ill-formed) with no step, the state as given and no word
- * or byte changed. The program is only read; data memory and RAM change as the
- * steps say and nowhere else. The three do not overlap. Nothing else is asked
- * of the caller: any program, memories, state and budget may be given. */
+ * long) or 4 (state ill-formed) with no step, the state as given, bit by bit,
+ * and no word or byte changed. The program is only read; data memory and RAM
+ * change as the steps say and nowhere else. The three do not overlap. Nothing
+ * else is asked of the caller: any program, memories, state and budget may be
+ * given. */
 merikohin_ran merikohin_run(const uint32_t *program, size_t program_len,
                             uint32_t *memory, size_t memory_len,
                             uint8_t *ram, size_t ram_len,

@@ -22,6 +22,9 @@ pub record Machine : Type 0 where
   pub memory : List ℕ
   pub ram : List ℕ
 
+abbrev pub together : State → List ℕ → List ℕ → Machine
+together s memory ram = record { state = s; memory = memory; ram = ram }
+
 -- a part replaced, all else kept
 abbrev pub withState : State → Machine → Machine
 withState s m = record { state = s; memory = m .memory; ram = m .ram }

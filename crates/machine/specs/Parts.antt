@@ -5,7 +5,7 @@ use mathlib.Core.List.{List}
 use Rattle.rules.specs.declared.Screen.{Screen}
 use Rattle.instructions.specs.declared.State.{State}
 use Rattle.instructions.specs.declared.Tree.{Tree}
-use Rattle.instructions.specs.Step.{Machine}
+use Rattle.instructions.specs.Step.{Machine, together}
 use Rattle.machine.specs.declared.parts.Cpu.{Cpu}
 use Rattle.machine.specs.declared.parts.View.{View}
 
@@ -21,9 +21,6 @@ stateOf regs cpu view = record {
   planted = view .planted;
   tree = view .tree;
 }
-
-abbrev pub together : State → List ℕ → List ℕ → Machine
-together s memory ram = record { state = s; memory = memory; ram = ram }
 
 abbrev pub machine : List ℕ → Cpu → View → List ℕ → List ℕ → Machine
 machine regs cpu view memory ram = together (stateOf regs cpu view) memory ram

@@ -10,9 +10,9 @@ use screen::sizes::sound;
 use screen::sizes::too_long;
 use tree::refuses;
 ghost use mathlib.Core.Path.{_≡_};
+ghost use Rattle.instructions.specs.Step.{together};
 ghost use Rattle.instructions.specs.Run.{illFormed, machineNumber};
 ghost use Rattle.instructions.specs.Calls.{Fresh, Runs};
-ghost use Rattle.machine.specs.Parts.{together};
 
 // What a run answers: its number, the steps carried out, and the state.
 #[repr(C)]

@@ -3,9 +3,8 @@ use Prim.Native.Nat.{ℕ}
 use mathlib.Core.Path.{_≡_, subst}
 use mathlib.Core.List.{List}
 use Rattle.instructions.specs.declared.State.{State}
-use Rattle.instructions.specs.Step.{Machine}
+use Rattle.instructions.specs.Step.{Machine, together}
 use Rattle.instructions.specs.Calls.{Runs}
-use Rattle.machine.specs.Parts.{together}
 
 pub runs-of-equal :
     {program memory ram : List ℕ}

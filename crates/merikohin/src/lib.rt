@@ -67,11 +67,21 @@ pub extern "C" fn merikohin_run(
     ensures { λ r. ⌜ RunsLent (now (program .entry)) budget state (now (memory .entry)) (now (ram .entry)) r (now (memory .exit)) (now (ram .exit)) ⌝ }
 {
     let ran = machine::calls::run_machine(program, memory, ram, state_of(state), budget);
+    let number = ran.number;
+    let steps = ran.steps;
+    // a state that is refused is answered as it was given
+    if number != 0 {
+        return LentRan {
+            number,
+            steps,
+            state,
+        };
+    }
     let last = ran.state;
     let state = lent_state(last);
     LentRan {
-        number: ran.number,
-        steps: ran.steps,
+        number,
+        steps,
         state,
     }
 }

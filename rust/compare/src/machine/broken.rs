@@ -7,10 +7,13 @@ use crate::subject::Slip;
 use merikohin::{Ran, State};
 use second::machine::{self, leaf_value, ASRI, CALL, DOT, LD, MULF, READ, SCRSET, ST, TREEIN, TREEVAL, WRITE};
 
-pub fn run(slip: Slip, program: &[u32], data: &mut [u32], ram: &mut [u8], given: State, allowed: u64) -> Ran {
-    let given = second_state(&given);
-    let refused = machine::run_number(program.len(), data.len(), ram.len(), &given) != 0;
-    if refused || !slip.of_the_machine() {
+pub fn run(slip: Slip, program: &[u32], data: &mut [u32], ram: &mut [u8], lent: State, allowed: u64) -> Ran {
+    let given = second_state(&lent);
+    let number = machine::run_number(program.len(), data.len(), ram.len(), &given);
+    if number != 0 {
+        return Ran { number, steps: 0, state: lent };
+    }
+    if !slip.of_the_machine() {
         let ran = machine::run(program, data, ram, &given, allowed);
         return Ran { number: ran.number, steps: ran.steps, state: plain_state(&ran.state) };
     }

@@ -231,7 +231,7 @@ pub fn plain_state(s: &second::machine::State) -> State {
     state
 }
 
-/// Whether every yes and no of an answered state is 1 or 0.
+/// Whether every yes and no of a state that a run led to is 1 or 0.
 pub fn plainly_answered(s: &State) -> bool {
     let flags = [s.negative, s.zero, s.shown, s.planted].iter().all(|&n| n <= 1);
     let marks = s.tree.inside.iter().chain(&s.tree.outside).all(|&n| n <= 1) && s.tree.held <= 1;

@@ -129,7 +129,10 @@ pub fn check(subject: Subject, case: &Case, memories: &mut Memories) -> Checked 
         if second_state(&seen.state) != expected.state {
             text += &states_in_words(name, &seen.state, &plain_state(&expected.state));
         }
-        if !plainly_answered(&seen.state) {
+        if seen.number != 0 && seen.state != state {
+            text += &format!("  {name} refused the state, and answers not as it was given: {:?}\n", seen.state);
+        }
+        if seen.number == 0 && !plainly_answered(&seen.state) {
             text += &format!("  {name} answers a yes or no that is neither 0 nor 1: {:?}\n", seen.state);
         }
         if memories.data.seen() != memories.second_data {

@@ -28,8 +28,7 @@ fn busy(length: usize) -> Vec<u32> {
 /// with the second program).
 fn refused(run: &mut Run, case: &Case, number: u32) {
     if let Some(ran) = run.machine_wants(case, number, Some(0), None) {
-        let same = second_state(&ran.state) == second_state(&case.state);
-        run.holds(same, || format!("{case}: refused, and the state is not as given"));
+        run.holds(ran.state == case.state, || format!("{case}: refused, and the state is not as given"));
     }
 }
 

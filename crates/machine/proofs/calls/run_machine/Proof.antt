@@ -5,7 +5,8 @@ use Rattle.instructions.specs.declared.State.{State}
 use Rattle.instructions.specs.Step.{Machine}
 use Rattle.machine.specs.declared.parts.Cpu.{Cpu}
 use Rattle.machine.specs.declared.parts.View.{View}
-use Rattle.machine.specs.Parts.{together, machine}
+use Rattle.instructions.specs.Step.{together}
+use Rattle.machine.specs.Parts.{machine}
 use Rattle.machine.specs.Runs.{Ready}
 use Rattle.machine.proofs.Numbered.{accepted-ready, runs-refused, runs-done}
 use borrow.Author.Needs.{needs}
