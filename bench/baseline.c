@@ -1,48 +1,10 @@
-/* The C baseline: the same drawing rules as the engine's, written the usual
- * way. The triangle's bounding box is clipped to the screen; each pixel of it
- * is tested by three edge values, kept up by addition; half-words are
- * big-endian. The benchmark compiles this file once with each C compiler and
- * gives the functions a prefix (gcc_draw, clang_draw, ...).
- */
-#include "merikohin.h"
-
-#include <string.h>
-
-#ifndef PREFIX
-#define PREFIX baseline
-#endif
-#define JOIN2(a, b) a##_##b
-#define JOIN(a, b) JOIN2(a, b)
-#define NAME(x) JOIN(PREFIX, x)
-
-/* 0, 3 or 5. */
-static uint32_t screen_number(size_t ram_len, merikohin_screen s)
-{
-    uint32_t groups = s.size / 512, height = s.size % 512;
-    if (ram_len > 4194304)
-        return 3;
-    if (groups < 1 || groups > 40 || height < 1 || height > 480)
-        return 5;
-    uint64_t bytes = (uint64_t)groups * 32 * height;
-    if (s.colour % 2 != 0 || s.depth % 2 != 0)
-        return 5;
-    if (s.colour + bytes > ram_len || s.depth + bytes > ram_len)
-        return 5;
-    if (s.colour < s.depth + bytes && s.depth < s.colour + bytes)
-        return 5;
-    return 0;
-}
-
-static void put_half(uint8_t *at, uint16_t value)
-{
-    at[0] = (uint8_t)(value >> 8);
-    at[1] = (uint8_t)value;
-}
-
-static uint16_t get_half(const uint8_t *at)
-{
-    return (uint16_t)(at[0] << 8 | at[1]);
-}
+/* The C baselines of drawing: the engine's rules, written the usual way. The
+ * triangle's bounding box is clipped to the screen and each pixel of it is
+ * tested by three edge values. There are two: "per pixel" works these out anew
+ * at each pixel, as the rules state them and in 64 bits, where no bound on them
+ * need be known; "stepped" keeps them up by addition, in 32 bits. They differ
+ * in nothing else. */
+#include "baseline.h"
 
 static int out_of_range(int32_t v)
 {
@@ -57,6 +19,76 @@ static int32_t least(int32_t a, int32_t b)
 static int32_t most(int32_t a, int32_t b)
 {
     return a > b ? a : b;
+}
+
+/* First and last pixel to be tested in each direction, and the screen's width.
+ * The shifts round down. */
+struct box {
+    int32_t left, right, top, bottom, width;
+};
+
+/* The call's number; the box where it is 0. */
+static uint32_t look(size_t ram_len, merikohin_screen s, const merikohin_triangle *t, struct box *box)
+{
+    if (ram_len > MOST_RAM)
+        return 3;
+    if (!sound(ram_len, s))
+        return 5;
+    if (out_of_range(t->x1) || out_of_range(t->y1) || out_of_range(t->x2) || out_of_range(t->y2) ||
+        out_of_range(t->x3) || out_of_range(t->y3))
+        return 6;
+    box->width = (int32_t)(s.size / 512) * 16;
+    box->left = most(0, (least(t->x1, least(t->x2, t->x3)) + 7) >> 3);
+    box->right = least(box->width - 1, most(t->x1, most(t->x2, t->x3)) >> 3);
+    box->top = most(0, (least(t->y1, least(t->y2, t->y3)) + 7) >> 3);
+    box->bottom = least((int32_t)(s.size % 512) - 1, most(t->y1, most(t->y2, t->y3)) >> 3);
+    return 0;
+}
+
+static uint32_t plane_at(merikohin_plane p, uint32_t x, uint32_t y)
+{
+    return (uint32_t)p.c + (uint32_t)p.a * x + (uint32_t)p.b * y;
+}
+
+/* A covered pixel in its row of colours and of depths. */
+static void cover(const merikohin_triangle *t, uint8_t *colours, uint8_t *depths, int32_t x, int32_t y, merikohin_drawn *answer)
+{
+    uint32_t px = (uint32_t)x, py = (uint32_t)y;
+    uint16_t depth = (uint16_t)(plane_at(t->depth, px, py) >> 16);
+    answer->covered++;
+    if (depth > get_half(depths + 2 * x))
+        return;
+    answer->written++;
+    uint32_t red = plane_at(t->red, px, py) >> 16 & 31;
+    uint32_t green = plane_at(t->green, px, py) >> 16 & 63;
+    uint32_t blue = plane_at(t->blue, px, py) >> 16 & 31;
+    put_half(depths + 2 * x, depth);
+    put_half(colours + 2 * x, (uint16_t)(red << 11 | green << 5 | blue));
+}
+
+static int inside(int32_t x1, int32_t y1, int32_t x2, int32_t y2, int32_t px, int32_t py)
+{
+    int64_t dx = x2 - x1, dy = y2 - y1;
+    int64_t value = (py - y1) * dx - (px - x1) * dy;
+    return value > 0 || (value == 0 && (dy < 0 || (dy == 0 && dx > 0)));
+}
+
+merikohin_drawn NAME(per_pixel)(uint8_t *ram, size_t ram_len, merikohin_screen s, merikohin_triangle t)
+{
+    struct box box;
+    merikohin_drawn answer = {look(ram_len, s, &t, &box), 0, 0};
+    if (answer.number != 0)
+        return answer;
+    for (int32_t y = box.top; y <= box.bottom; y++) {
+        uint8_t *colours = ram + s.colour + (size_t)y * (size_t)box.width * 2;
+        uint8_t *depths = ram + s.depth + (size_t)y * (size_t)box.width * 2;
+        for (int32_t x = box.left; x <= box.right; x++) {
+            if (inside(t.x1, t.y1, t.x2, t.y2, 8 * x, 8 * y) && inside(t.x2, t.y2, t.x3, t.y3, 8 * x, 8 * y) &&
+                inside(t.x3, t.y3, t.x1, t.y1, 8 * x, 8 * y))
+                cover(&t, colours, depths, x, y, &answer);
+        }
+    }
+    return answer;
 }
 
 /* One edge: its value at the box's first pixel, less 1 where zero is outside,
@@ -76,52 +108,22 @@ static struct edge edge_at(int32_t x1, int32_t y1, int32_t x2, int32_t y2, int32
     return e;
 }
 
-static uint32_t plane_at(merikohin_plane p, uint32_t x, uint32_t y)
+merikohin_drawn NAME(stepped)(uint8_t *ram, size_t ram_len, merikohin_screen s, merikohin_triangle t)
 {
-    return (uint32_t)p.c + (uint32_t)p.a * x + (uint32_t)p.b * y;
-}
-
-merikohin_drawn NAME(draw)(uint8_t *ram, size_t ram_len, merikohin_screen s, merikohin_triangle t)
-{
-    merikohin_drawn answer = {screen_number(ram_len, s), 0, 0};
+    struct box box;
+    merikohin_drawn answer = {look(ram_len, s, &t, &box), 0, 0};
     if (answer.number != 0)
         return answer;
-    if (out_of_range(t.x1) || out_of_range(t.y1) || out_of_range(t.x2) || out_of_range(t.y2) ||
-        out_of_range(t.x3) || out_of_range(t.y3)) {
-        answer.number = 6;
-        return answer;
-    }
-
-    int32_t width = (int32_t)(s.size / 512) * 16, height = (int32_t)(s.size % 512);
-    /* First and last pixel of the box in each direction; the shifts round
-     * down. */
-    int32_t left = most(0, (least(t.x1, least(t.x2, t.x3)) + 7) >> 3);
-    int32_t right = least(width - 1, most(t.x1, most(t.x2, t.x3)) >> 3);
-    int32_t top = most(0, (least(t.y1, least(t.y2, t.y3)) + 7) >> 3);
-    int32_t bottom = least(height - 1, most(t.y1, most(t.y2, t.y3)) >> 3);
-
-    struct edge a = edge_at(t.x1, t.y1, t.x2, t.y2, 8 * left, 8 * top);
-    struct edge b = edge_at(t.x2, t.y2, t.x3, t.y3, 8 * left, 8 * top);
-    struct edge c = edge_at(t.x3, t.y3, t.x1, t.y1, 8 * left, 8 * top);
-
-    uint32_t covered = 0, written = 0;
-    for (int32_t y = top; y <= bottom; y++) {
+    struct edge a = edge_at(t.x1, t.y1, t.x2, t.y2, 8 * box.left, 8 * box.top);
+    struct edge b = edge_at(t.x2, t.y2, t.x3, t.y3, 8 * box.left, 8 * box.top);
+    struct edge c = edge_at(t.x3, t.y3, t.x1, t.y1, 8 * box.left, 8 * box.top);
+    for (int32_t y = box.top; y <= box.bottom; y++) {
         int32_t ea = a.value, eb = b.value, ec = c.value;
-        uint8_t *colours = ram + s.colour + (size_t)y * (size_t)width * 2;
-        uint8_t *depths = ram + s.depth + (size_t)y * (size_t)width * 2;
-        for (int32_t x = left; x <= right; x++) {
-            if (ea >= 0 && eb >= 0 && ec >= 0) {
-                covered++;
-                uint16_t depth = (uint16_t)(plane_at(t.depth, (uint32_t)x, (uint32_t)y) >> 16);
-                if (depth <= get_half(depths + 2 * x)) {
-                    written++;
-                    uint32_t red = plane_at(t.red, (uint32_t)x, (uint32_t)y) >> 16 & 31;
-                    uint32_t green = plane_at(t.green, (uint32_t)x, (uint32_t)y) >> 16 & 63;
-                    uint32_t blue = plane_at(t.blue, (uint32_t)x, (uint32_t)y) >> 16 & 31;
-                    put_half(depths + 2 * x, depth);
-                    put_half(colours + 2 * x, (uint16_t)(red << 11 | green << 5 | blue));
-                }
-            }
+        uint8_t *colours = ram + s.colour + (size_t)y * (size_t)box.width * 2;
+        uint8_t *depths = ram + s.depth + (size_t)y * (size_t)box.width * 2;
+        for (int32_t x = box.left; x <= box.right; x++) {
+            if (ea >= 0 && eb >= 0 && ec >= 0)
+                cover(&t, colours, depths, x, y, &answer);
             ea += a.right;
             eb += b.right;
             ec += c.right;
@@ -130,26 +132,15 @@ merikohin_drawn NAME(draw)(uint8_t *ram, size_t ram_len, merikohin_screen s, mer
         b.value += b.down;
         c.value += c.down;
     }
-    answer.covered = covered;
-    answer.written = written;
     return answer;
-}
-
-static void fill(uint8_t *at, size_t pixels, uint16_t value)
-{
-    uint8_t half[2];
-    put_half(half, value);
-    for (size_t i = 0; i < pixels; i++)
-        memcpy(at + 2 * i, half, 2);
 }
 
 uint32_t NAME(clear)(uint8_t *ram, size_t ram_len, merikohin_screen s, uint16_t colour, uint16_t depth)
 {
-    uint32_t number = screen_number(ram_len, s);
-    if (number != 0)
-        return number;
-    size_t pixels = (size_t)(s.size / 512) * 16 * (s.size % 512);
-    fill(ram + s.colour, pixels, colour);
-    fill(ram + s.depth, pixels, depth);
+    if (ram_len > MOST_RAM)
+        return 3;
+    if (!sound(ram_len, s))
+        return 5;
+    fill_screen(ram, s, colour, depth);
     return 0;
 }

@@ -1,70 +1,56 @@
-/* The benchmark's program. It links the engine and the C baselines, draws the
- * same triangles with each of them and checks that their RAMs end equal.
- *
- *     driver list                      workloads and drawers, for the script
- *     driver check WORKLOAD            every drawer must agree with the first
- *     driver count WORKLOAD DRAWER     one pass; run under callgrind, which
- *                                      collects inside measured() alone
- *     driver time WORKLOAD REPEATS     nanoseconds per pass for each drawer,
- *                                      one line per drawer, drawers in turn
- *
- * Workloads follow from a fixed seed.
- */
+/* The benchmark of drawing: the same triangles, from a fixed seed, drawn by the
+ * engine and by the C baselines, whose RAMs and counts must end equal. */
+#include "harness.h"
 #include "merikohin.h"
 
-#include <inttypes.h>
 #include <math.h>
-#include <stdio.h>
-#include <stdlib.h>
-#include <string.h>
-#include <time.h>
-
-/* ------------------------------------------------------------- the drawers */
 
 typedef merikohin_drawn draw_call(uint8_t *, size_t, merikohin_screen, merikohin_triangle);
 typedef uint32_t clear_call(uint8_t *, size_t, merikohin_screen, uint16_t, uint16_t);
 
-draw_call gcc_draw;
-clear_call gcc_clear;
-#ifdef WITH_CLANG
-draw_call clang_draw;
-clear_call clang_clear;
-#endif
+draw_call gcc_per_pixel, gcc_stepped, clang_per_pixel, clang_stepped;
+clear_call gcc_clear, clang_clear;
 
+const struct named subjects[] = {
+    {"engine", "engine"},
+    {"gcc-per-pixel", "C per pixel, gcc"},
+#ifdef WITH_CLANG
+    {"clang-per-pixel", "C per pixel, clang"},
+#endif
+    {"gcc-stepped", "C stepped, gcc"},
+#ifdef WITH_CLANG
+    {"clang-stepped", "C stepped, clang"},
+#endif
+};
 static const struct drawer {
-    const char *name;
     draw_call *draw;
     clear_call *clear;
 } drawers[] = {
-    {"gcc", gcc_draw, gcc_clear},
+    {merikohin_draw, merikohin_clear},
+    {gcc_per_pixel, gcc_clear},
 #ifdef WITH_CLANG
-    {"clang", clang_draw, clang_clear},
+    {clang_per_pixel, clang_clear},
 #endif
-    {"engine", merikohin_draw, merikohin_clear},
+    {gcc_stepped, gcc_clear},
+#ifdef WITH_CLANG
+    {clang_stepped, clang_clear},
+#endif
 };
-enum { DRAWERS = sizeof drawers / sizeof drawers[0] };
+enum { DRAWERS = sizeof drawers / sizeof drawers[0], WIDTH = 640, HEIGHT = 480, MOST = 4000, SLIVER_RISE = 89 };
+const int subject_count = DRAWERS;
 
-/* ----------------------------------------------------------- the workloads */
-
-static uint64_t seed;
-
-static uint64_t next(void)
-{
-    uint64_t z = (seed += 0x9e3779b97f4a7c15u);
-    z = (z ^ z >> 30) * 0xbf58476d1ce4e5b9u;
-    z = (z ^ z >> 27) * 0x94d049bb133111ebu;
-    return z ^ z >> 31;
-}
-
-static int32_t between(int32_t low, int32_t high)
-{
-    return low + (int32_t)(next() % (uint64_t)(high - low + 1));
-}
-
-#ifndef SLIVER_RISE
-#define SLIVER_RISE 89
-#endif
-enum { WIDTH = 640, HEIGHT = 480, MOST = 4000 };
+const struct named workloads[] = {
+    {"small", "50-pixel triangles"},
+    {"middle", "1,000-pixel triangles"},
+    {"full", "full-screen triangles"},
+    {"slivers", "slivers 600 long, 1 high"},
+    {"clear", "clear"},
+    {"on16x16", "one 50-pixel triangle on 16 by 16"},
+    {"on64x64", "one 50-pixel triangle on 64 by 64"},
+    {"on320x240", "one 50-pixel triangle on 320 by 240"},
+    {"on640x480", "one 50-pixel triangle on 640 by 480"},
+};
+const int workload_count = sizeof workloads / sizeof workloads[0];
 
 static merikohin_triangle triangles[MOST];
 static size_t count;
@@ -140,23 +126,13 @@ static void add_sliver(int32_t rise)
         add(x + 4800, y + rise, x + 4800, y + rise + 8, x, y);
 }
 
-static const struct workload {
-    const char *name, *words;
-} workloads[] = {
-    {"small", "50-pixel triangles"},
-    {"middle", "1,000-pixel triangles"},
-    {"full", "full-screen triangles"},
-    {"slivers", "slivers 600 long, 1 high"},
-    {"clear", "clear"},
-    {"on16x16", "on 16 by 16"},
-    {"on64x64", "on 64 by 64"},
-    {"on320x240", "on 320 by 240"},
-    {"on640x480", "on 640 by 480"},
-};
+static struct outcome {
+    uint8_t *ram;
+    uint64_t covered, written;
+} outcomes[DRAWERS];
 
-static void prepare(const char *name)
+void prepare(const char *name)
 {
-    seed = 1;
     set_screen(WIDTH, HEIGHT);
     if (!strcmp(name, "small")) {
         for (int k = 0; k < 2000; k++)
@@ -193,22 +169,21 @@ static void prepare(const char *name)
             triangles[k] = triangles[0];
         }
     }
+    for (int k = 0; k < DRAWERS; k++)
+        outcomes[k].ram = room(ram_len);
 }
 
-/* ---------------------------------------------------------------- the passes */
-
-static uint64_t covered, written;
-
-static void first_state(uint8_t *ram)
+void first_state(int subject)
 {
     size_t half = ram_len / 2;
-    memset(ram, 0, half);
-    memset(ram + half, 255, half);
+    memset(outcomes[subject].ram, 0, half);
+    memset(outcomes[subject].ram + half, 255, half);
 }
 
-/* Everything that is counted happens in here. */
-__attribute__((noinline)) void measured(const struct drawer *d, uint8_t *ram)
+void measured(int subject)
 {
+    const struct drawer *d = &drawers[subject];
+    uint8_t *ram = outcomes[subject].ram;
     uint64_t c = 0, w = 0;
     for (size_t k = 0; k < count; k++) {
         merikohin_drawn drawn = d->draw(ram, ram_len, screen, triangles[k]);
@@ -220,105 +195,23 @@ __attribute__((noinline)) void measured(const struct drawer *d, uint8_t *ram)
         c += ram_len / 4;
         w += ram_len / 4;
     }
-    covered = c;
-    written = w;
+    outcomes[subject].covered = c;
+    outcomes[subject].written = w;
 }
 
-static uint8_t *new_ram(void)
+void must_agree(const char *workload)
 {
-    uint8_t *ram = malloc(ram_len);
-    if (!ram)
-        exit(3);
-    first_state(ram);
-    return ram;
-}
-
-static void must_agree(const char *what, uint8_t *rams[], const uint64_t c[], const uint64_t w[])
-{
+    const struct outcome *a = &outcomes[0];
     for (int k = 1; k < DRAWERS; k++) {
-        if (memcmp(rams[0], rams[k], ram_len) != 0 || c[0] != c[k] || w[0] != w[k]) {
-            fprintf(stderr, "%s: %s and %s disagree (covered %" PRIu64 " and %" PRIu64 ", written %" PRIu64 " and %" PRIu64 ")\n",
-                    what, drawers[0].name, drawers[k].name, c[0], c[k], w[0], w[k]);
+        const struct outcome *b = &outcomes[k];
+        if (memcmp(a->ram, b->ram, ram_len) != 0 || a->covered != b->covered || a->written != b->written) {
+            fprintf(stderr, "%s: %s and %s disagree\n", workload, subjects[0].words, subjects[k].words);
             exit(1);
         }
     }
 }
 
-static int64_t now(void)
+void print_counts(void)
 {
-    struct timespec t;
-    clock_gettime(CLOCK_PROCESS_CPUTIME_ID, &t);
-    return (int64_t)t.tv_sec * 1000000000 + t.tv_nsec;
-}
-
-int main(int argc, char **argv)
-{
-    if (argc == 2 && !strcmp(argv[1], "list")) {
-        for (size_t k = 0; k < sizeof workloads / sizeof workloads[0]; k++)
-            printf("workload %s %s\n", workloads[k].name, workloads[k].words);
-        for (int k = 0; k < DRAWERS; k++)
-            printf("drawer %s\n", drawers[k].name);
-        return 0;
-    }
-    if (argc < 3)
-        return 2;
-    prepare(argv[2]);
-    uint64_t c[DRAWERS], w[DRAWERS];
-    uint8_t *rams[DRAWERS];
-    for (int k = 0; k < DRAWERS; k++)
-        rams[k] = new_ram();
-
-    if (!strcmp(argv[1], "check")) {
-        for (int k = 0; k < DRAWERS; k++) {
-            measured(&drawers[k], rams[k]);
-            c[k] = covered, w[k] = written;
-        }
-        must_agree(argv[2], rams, c, w);
-        printf("calls %zu covered %" PRIu64 " written %" PRIu64 "\n", count + clears, covered, written);
-        return 0;
-    }
-    if (!strcmp(argv[1], "count") && argc == 4) {
-        for (int k = 0; k < DRAWERS; k++)
-            if (!strcmp(drawers[k].name, argv[3])) {
-                measured(&drawers[k], rams[k]);
-                return 0;
-            }
-        return 2;
-    }
-    if (!strcmp(argv[1], "time") && argc == 4) {
-        int repeats = atoi(argv[3]);
-        int64_t *times[DRAWERS];
-        /* Enough passes in one measurement to make it a few milliseconds. */
-        int passes = 1;
-        int64_t start = now();
-        measured(&drawers[0], rams[0]);
-        int64_t once = now() - start;
-        if (once < 5000000)
-            passes = (int)(5000000 / (once + 1)) + 1;
-        for (int k = 0; k < DRAWERS; k++)
-            times[k] = calloc((size_t)repeats, sizeof *times[k]);
-        for (int r = 0; r < repeats; r++) {
-            for (int j = 0; j < DRAWERS; j++) {
-                int k = (j + r) % DRAWERS;
-                int64_t sum = 0;
-                for (int p = 0; p < passes; p++) {
-                    first_state(rams[k]);
-                    start = now();
-                    measured(&drawers[k], rams[k]);
-                    sum += now() - start;
-                }
-                c[k] = covered, w[k] = written;
-                times[k][r] = sum / passes;
-            }
-            must_agree(argv[2], rams, c, w);
-        }
-        for (int k = 0; k < DRAWERS; k++) {
-            printf("%s", drawers[k].name);
-            for (int r = 0; r < repeats; r++)
-                printf(" %" PRId64, times[k][r]);
-            printf("\n");
-        }
-        return 0;
-    }
-    return 2;
+    printf("%zu %" PRIu64 " %" PRIu64 "\n", count + clears, outcomes[0].covered, outcomes[0].written);
 }

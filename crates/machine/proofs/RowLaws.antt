@@ -2,18 +2,20 @@
 use Prim.Native.Nat.{ℕ, _+_, _%_, _≤_, _<_}
 use mathlib.Core.Path.{_≡_, refl, sym, _∙_, ap}
 use mathlib.Core.Logic.{_≢_}
-use mathlib.Core.Bool.{Bool, true, false, _||_, not, false≢true}
+use mathlib.Core.Bool.{Bool, true, false, _||_, not}
 use mathlib.Core.List.{List}
 use native.Mathlib.Omega.{arith}
 use lib.Dec.{leb, ltb, eqb}
-use borrow.Author.Tests.{ltb-true, ltb-false, leb-false, lt-leb, le-leb, le-ltb, eqb-true, eqb-false, ne-eqb}
+use borrow.Author.Tests.{ltb-true, ltb-false, lt-leb, le-leb, lt-ltb, le-ltb, eqb-true, eqb-false, ne-eqb}
 use Rattle.rules.specs.Turns.{choose}
 use Rattle.instructions.specs.declared.State.{State}
-use Rattle.instructions.specs.Opcodes.{LD, ST, ASRI, JMP, JGEL, DOT, READ, WRITE, SCRSET, CLS, TREESET, TREEIN, TREEVAL, TREEPUT, noInstruction}
+use Rattle.instructions.specs.Opcodes.{LD, ST, ASRI, JMP, JGEL, DOT, READ, WRITE, SCRSET, CLS, TREESET, TREEIN, TREEVAL, TREEPUT}
 use Rattle.instructions.specs.Words.{opcode, imm, inR1, inR2, inR3, address}
 use Rattle.instructions.specs.Arithmetic.{setsFlags}
 use Rattle.instructions.specs.Jumps.{isJump}
-use Rattle.instructions.specs.Halts.{outsideData, isMove, moveOutsideData, moveOutsideRam, noScreen, noTree, wordHalt}
+use Rattle.instructions.specs.Halts.{outsideData, isMove, moveOutsideData, moveOutsideRam, noScreen, noTree, screenSet, wordHalt}
+use Rattle.instructions.specs.Tree.{refusesPlace}
+use Rattle.rules.specs.Sizes.{sound}
 use Rattle.instructions.specs.Step.{withRegisters}
 use Rattle.instructions.specs.Run.{freshState}
 use Rattle.instructions.proofs.Picks.{none-and}
@@ -96,19 +98,39 @@ module _ (ramLength : ℕ) (s : State) (w : ℕ) (h : opcode w ≤ WRITE) where
         ne-eqb (opcode w) TREEPUT (λ q. omega arith),
       )
 
--- what is left of them from SCRSET on
-module _ (ramLength : ℕ) (s : State) (w : ℕ) (h : WRITE < opcode w) where
-  pub rows-drawing : wordHalt ramLength s w
-      ≡ choose (noInstruction (opcode w)) 11 (choose (noScreen ramLength s w) 17 (choose (noTree s w) 14 0))
-  unfolding wordHalt outsideData moveOutsideData moveOutsideRam
-  rows-drawing =
-      rw (
-        ne-eqb (opcode w) LD (λ q. omega arith),
-        ne-eqb (opcode w) ST (λ q. omega arith),
-        ne-eqb (opcode w) DOT (λ q. omega arith),
-        ne-eqb (opcode w) READ (λ q. omega arith),
-        ne-eqb (opcode w) WRITE (λ q. omega arith),
-      )
+-- the rows of each instruction from SCRSET on
+module _ (ramLength : ℕ) (s : State) (w : ℕ) where
+  pub rows-SCRSET : opcode w ≡ SCRSET → wordHalt ramLength s w ≡ choose (not (sound ramLength (screenSet (s .regs) w))) 17 0
+  unfolding wordHalt outsideData moveOutsideData moveOutsideRam noScreen noTree
+  rows-SCRSET e = rw e (ap (λ b. choose b 17 0) (or-false (not (sound ramLength (screenSet (s .regs) w)))))
+
+  pub rows-CLS : opcode w ≡ CLS → wordHalt ramLength s w ≡ choose (not (s .shown)) 17 0
+  unfolding wordHalt outsideData moveOutsideData moveOutsideRam noScreen noTree
+  rows-CLS e = rw e
+
+  pub rows-TREESET : opcode w ≡ TREESET
+      → wordHalt ramLength s w
+      ≡ choose (not (s .shown)) 17 (choose (refusesPlace (s .screen) (inR1 (s .regs) w) (inR2 (s .regs) w)) 14 0)
+  unfolding wordHalt outsideData moveOutsideData moveOutsideRam noScreen noTree
+  rows-TREESET e =
+      let r = refusesPlace (s .screen) (inR1 (s .regs) w) (inR2 (s .regs) w) in
+      rw e (ap (λ b. choose (not (s .shown)) 17 (choose b 14 0)) (or-false (r || false) ∙ or-false r))
+
+  pub rows-TREEIN : opcode w ≡ TREEIN → wordHalt ramLength s w ≡ choose (not (s .planted)) 14 0
+  unfolding wordHalt outsideData moveOutsideData moveOutsideRam noScreen noTree
+  rows-TREEIN e = rw e (ap (λ b. choose b 14 0) (or-false (not (s .planted))))
+
+  pub rows-TREEVAL : opcode w ≡ TREEVAL → wordHalt ramLength s w ≡ choose (not (s .planted) || ltb 3 (imm w)) 14 0
+  unfolding wordHalt outsideData moveOutsideData moveOutsideRam noScreen noTree
+  rows-TREEVAL e = rw e
+
+  pub rows-TREEPUT : opcode w ≡ TREEPUT → wordHalt ramLength s w ≡ choose (not (s .planted)) 14 0
+  unfolding wordHalt outsideData moveOutsideData moveOutsideRam noScreen noTree
+  rows-TREEPUT e = rw e (ap (λ b. choose b 14 0) (or-false (not (s .planted))))
+
+  pub rows-above : TREEPUT < opcode w → wordHalt ramLength s w ≡ 11
+  unfolding wordHalt
+  rows-above h = rw (lt-ltb TREEPUT (opcode w) h)
 
 -- what an instruction up to WRITE finds where no row applies: the rows look at the registers alone, so any state with them serves
 module _ (ramLength : ℕ) (regs : List ℕ) (w : ℕ) (h : opcode w ≤ WRITE) (e : memoryHalt ramLength regs w ≡ 0) where
@@ -126,25 +148,20 @@ module _ (ramLength : ℕ) (regs : List ℕ) (w : ℕ) (h : opcode w ≤ WRITE) 
   moves-fit = record { inData = move-in-data no-halt; inRam = λ q. move-in-ram no-halt q .1 }
 
 -- the ranges of the opcode, as the code parts them
-pub jump-left : (op : ℕ) → setsFlags op ≡ false → op ≢ ST → op ≤ JGEL → isJump op ≡ true
-jump-left op f d h = go (leb op ASRI) refl
-  where
-    go : (t : Bool) → leb op ASRI ≡ t → isJump op ≡ true
-    go true p =
-        let g : setsFlags op ≡ true = rw (p, ne-eqb op ST d) in
-        absurd (false≢true (sym f ∙ g))
-    go false p =
-        let l : JMP ≤ op = omega (arith, leb-false op ASRI p) in
-        rw (le-leb JMP op l, le-leb op JGEL h)
+pub flags-set : (op : ℕ) → op ≤ ASRI → op ≢ ST → setsFlags op ≡ true
+flags-set op h d = rw (le-leb op ASRI h, ne-eqb op ST d)
 
-pub move-left : (op : ℕ) → setsFlags op ≡ false → JGEL < op → op ≤ WRITE → isMove op ≡ true
-move-left op f l h = go (eqb op READ) refl
-  where
-    d : op ≢ DOT
-    d e =
-        let g : setsFlags op ≡ true = rw e in
-        false≢true (sym f ∙ g)
+pub flags-DOT : (op : ℕ) → op ≡ DOT → setsFlags op ≡ true
+flags-DOT op e = rw e
 
+pub jump-left : (op : ℕ) → ASRI < op → op ≤ JGEL → isJump op ≡ true
+jump-left op l h =
+    let j : JMP ≤ op = omega arith in
+    rw (le-leb JMP op j, le-leb op JGEL h)
+
+pub move-left : (op : ℕ) → op ≢ DOT → JGEL < op → op ≤ WRITE → isMove op ≡ true
+move-left op d l h = go (eqb op READ) refl
+  where
     go : (t : Bool) → eqb op READ ≡ t → isMove op ≡ true
     go true e = rw e
     go false e =

@@ -3,7 +3,6 @@ use crate::opcodes::ASRI;
 use crate::opcodes::DOT;
 use crate::opcodes::LD;
 use crate::opcodes::LI;
-use crate::opcodes::ST;
 use crate::parts::Cpu;
 use crate::registers::address_in;
 use crate::registers::in_r1;
@@ -17,6 +16,7 @@ use alu::fields::imm;
 use alu::fields::opcode;
 use alu::fields::r1;
 use alu::fields::sign_extended;
+use alu::opcodes::ADD;
 use alu::opcodes::LSLI;
 use alu::value::value;
 ghost use Prim.Native.Nat.{_<_};
@@ -26,12 +26,6 @@ ghost use lib.ListN.{length, set};
 ghost use Rattle.instructions.specs.Words.{address, inR1, opcode, register, withRegister};
 ghost use Rattle.instructions.specs.Arithmetic.{operand, result, setsFlags};
 ghost use Rattle.machine.specs.Steps.{Going, InData, PutsResult};
-
-pub fn sets_flags(op: u32) -> bool
-    ensures { λ r. ⌜ r ≡ setsFlags op ⌝ }
-{
-    (op <= ASRI) & (op != ST) | (op == DOT)
-}
 
 fn operand(regs: &[u32; 32], w: u32) -> u32
     ensures { λ r. ⌜ r ≡ operand (now (regs .entry)) w ⌝ }
@@ -49,6 +43,9 @@ fn result(memory: &[u32], regs: &[u32; 32], w: u32) -> u32
     ensures { λ r. ⌜ r ≡ result (now (memory .entry)) (now (regs .entry)) w ⌝ }
 {
     let op = opcode(w);
+    if (ADD <= op) & (op < LSLI) {
+        return value(op, in_r2(regs, w), in_r3(regs, w));
+    }
     match op {
         LD => memory[address_in(regs, w) as usize],
         LI => sign_extended(address_in(regs, w)),

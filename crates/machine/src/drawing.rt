@@ -1,4 +1,5 @@
 // The instructions from SCRSET on, which alone touch the screen and the tree.
+use crate::halts::row;
 use crate::opcodes::CLS;
 use crate::opcodes::SCRSET;
 use crate::opcodes::TREEIN;
@@ -38,7 +39,7 @@ ghost use Rattle.instructions.specs.Opcodes.{WRITE};
 ghost use Rattle.instructions.specs.Words.{imm, inR1, inR2, opcode, r1, register, withRegister};
 ghost use Rattle.instructions.specs.Arithmetic.{lowHalf};
 ghost use Rattle.instructions.specs.Tree.{pastLeaves, treeVal};
-ghost use Rattle.instructions.specs.Halts.{noScreen, noTree, screenSet, wordHalt};
+ghost use Rattle.instructions.specs.Halts.{screenSet, wordHalt};
 ghost use Rattle.tree.specs.Leaves.{Placed};
 ghost use Rattle.machine.specs.Parts.{seen};
 ghost use Rattle.machine.specs.Steps.{DrawSteps, Drawing, Draws};
@@ -59,39 +60,26 @@ fn screen_set(regs: &[u32; 32], w: u32) -> Screen
     }
 }
 
-fn no_screen(len: usize, regs: &[u32; 32], view: View, w: u32) -> bool
-    ensures { λ r. ⌜ r ≡ noScreen len (seen (now (regs .entry)) view) w ⌝ }
-{
-    let op = opcode(w);
-    let refused = !sound(len, screen_set(regs, w));
-    (op == SCRSET) & refused | ((op == CLS) | (op == TREESET)) & !view.shown
-}
-
-fn no_tree(regs: &[u32; 32], view: View, w: u32) -> bool
-    ensures { λ r. ⌜ r ≡ noTree (seen (now (regs .entry)) view) w ⌝ }
-{
-    let op = opcode(w);
-    let screen = view.screen;
-    let refused = refuses(screen, in_r1(regs, w), in_r2(regs, w));
-    let grows = (op == TREEIN) | (op == TREEVAL) | (op == TREEPUT);
-    (op == TREESET) & refused | grows & !view.planted | (op == TREEVAL) & (3 < imm(w))
-}
-
 // Rows 11, 17 and 14; the others speak of no instruction from SCRSET on.
 fn draw_halt(len: usize, regs: &[u32; 32], view: View, w: u32) -> u32
     requires { ⌜ WRITE < opcode w ⌝ }
     ensures { λ r. ⌜ r ≡ wordHalt len (seen (now (regs .entry)) view) w ⌝ }
 {
-    if TREEPUT < opcode(w) {
-        return 11;
+    let screen = view.screen;
+    match opcode(w) {
+        SCRSET => row(!sound(len, screen_set(regs, w)), 17),
+        CLS => row(!view.shown, 17),
+        TREESET => {
+            if !view.shown {
+                return 17;
+            }
+            row(refuses(screen, in_r1(regs, w), in_r2(regs, w)), 14)
+        }
+        TREEIN => row(!view.planted, 14),
+        TREEVAL => row(!view.planted | (3 < imm(w)), 14),
+        TREEPUT => row(!view.planted, 14),
+        _ => 11,
     }
-    if no_screen(len, regs, view, w) {
-        return 17;
-    }
-    if no_tree(regs, view, w) {
-        return 14;
-    }
-    0
 }
 
 fn low_half(v: u32) -> u16

@@ -1,9 +1,10 @@
 // The instructions up to WRITE, which touch no screen and no tree. What most programs do most comes first.
 use crate::data::put_result;
-use crate::data::sets_flags;
 use crate::data::store;
 use crate::halts::memory_halt;
 use crate::jumping::jump;
+use crate::opcodes::ASRI;
+use crate::opcodes::DOT;
 use crate::opcodes::JGEL;
 use crate::opcodes::READ;
 use crate::opcodes::ST;
@@ -42,15 +43,18 @@ fn perform(w: u32, regs: &mut [u32; 32], memory: &mut [u32], ram: &mut [u8], cpu
     ensures { λ r. ⌜ Performs (now (regs .entry)) cpu (now (memory .entry)) (now (ram .entry)) w (now (regs .exit)) r (now (memory .exit)) (now (ram .exit)) ⌝ }
 {
     let op = opcode(w);
-    if sets_flags(op) {
+    if op <= JGEL {
+        if ASRI < op {
+            return jump(w, regs, cpu);
+        }
+        if op == ST {
+            store(w, memory, regs);
+            return onward(cpu);
+        }
         return put_result(w, memory, regs, cpu);
     }
-    if op == ST {
-        store(w, memory, regs);
-        return onward(cpu);
-    }
-    if op <= JGEL {
-        return jump(w, regs, cpu);
+    if op == DOT {
+        return put_result(w, memory, regs, cpu);
     }
     move_words(w, regs, memory, ram);
     onward(cpu)
