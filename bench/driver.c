@@ -44,6 +44,8 @@ const struct named workloads[] = {
     {"middle", "1,000-pixel triangles"},
     {"full", "full-screen triangles"},
     {"slivers", "slivers 600 long, 1 high"},
+    {"small_any", "50-pixel triangles of any shape"},
+    {"middle_any", "1,000-pixel triangles of any shape"},
     {"clear", "clear"},
     {"on16x16", "one 50-pixel triangle on 16 by 16"},
     {"on64x64", "one 50-pixel triangle on 64 by 64"},
@@ -90,8 +92,8 @@ static void add(int32_t x1, int32_t y1, int32_t x2, int32_t y2, int32_t x3, int3
     triangles[count++] = t;
 }
 
-/* Triangles of about this many pixels, of any shape that is not thin: the box
- * has at most four times the triangle's pixels. */
+/* Triangles of about this many pixels that are not thin: the box has at most
+ * four times the triangle's pixels. */
 static void add_of_area(int32_t pixels)
 {
     int32_t reach = (int32_t)(8 * sqrt(4.0 * pixels));
@@ -111,6 +113,27 @@ static void add_of_area(int32_t pixels)
             add(t.x1, t.y1, t.x2, t.y2, t.x3, t.y3);
             return;
         }
+    }
+}
+
+/* Triangles of this many pixels and of any shape: three points of a square,
+ * scaled. Most are thin. */
+static void add_of_any_shape(int32_t pixels)
+{
+    enum { SIDE = 1 << 20 };
+    for (;;) {
+        double p[6], scale;
+        for (int k = 0; k < 6; k++)
+            p[k] = between(0, SIDE);
+        scale = 8 * sqrt(2.0 * pixels / fabs((p[2] - p[0]) * (p[5] - p[1]) - (p[4] - p[0]) * (p[3] - p[1])));
+        if (!(scale * SIDE < 8 * (HEIGHT - 1)))
+            continue;
+        int32_t reach = (int32_t)(scale * SIDE);
+        int32_t x = between(0, 8 * (WIDTH - 1) - reach), y = between(0, 8 * (HEIGHT - 1) - reach), v[6];
+        for (int k = 0; k < 6; k++)
+            v[k] = (k % 2 ? y : x) + (int32_t)lround(p[k] * scale);
+        add(v[0], v[1], v[2], v[3], v[4], v[5]);
+        return;
     }
 }
 
@@ -140,6 +163,12 @@ void prepare(const char *name)
     } else if (!strcmp(name, "middle")) {
         for (int k = 0; k < 200; k++)
             add_of_area(1000);
+    } else if (!strcmp(name, "small_any")) {
+        for (int k = 0; k < 2000; k++)
+            add_of_any_shape(50);
+    } else if (!strcmp(name, "middle_any")) {
+        for (int k = 0; k < 200; k++)
+            add_of_any_shape(1000);
     } else if (!strcmp(name, "full")) {
         /* The two halves of the screen, both ways of cutting it. */
         int32_t r = 8 * WIDTH, b = 8 * HEIGHT;

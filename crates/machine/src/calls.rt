@@ -74,7 +74,7 @@ pub fn ill_formed(len: usize, state: State) -> bool
 }
 
 // The lowest number that applies.
-fn machine_number(program: usize, memory: usize, ram: usize, state: State) -> u32
+pub fn machine_number(program: usize, memory: usize, ram: usize, state: State) -> u32
     ensures { λ r. ⌜ r ≡ machineNumber program memory ram state ⌝ }
 {
     if 1024 < program {

@@ -2,6 +2,8 @@
 use border::LentState;
 use border::lent_state;
 use border::state_of;
+use machine::calls::machine_number;
+use machine::calls::run_machine;
 use rules::Drawn;
 use rules::Screen;
 use rules::Triangle;
@@ -66,22 +68,22 @@ pub extern "C" fn merikohin_run(
 ) -> LentRan
     ensures { λ r. ⌜ RunsLent (now (program .entry)) budget state (now (memory .entry)) (now (ram .entry)) r (now (memory .exit)) (now (ram .exit)) ⌝ }
 {
-    let ran = machine::calls::run_machine(program, memory, ram, state_of(state), budget);
-    let number = ran.number;
-    let steps = ran.steps;
-    // a state that is refused is answered as it was given
+    let given = state_of(state);
+    // judged before the run, so that the lent state is not kept through it: refused, it is answered bit by bit
+    let number = machine_number(program.len(), memory.len(), ram.len(), given);
     if number != 0 {
         return LentRan {
             number,
-            steps,
+            steps: 0,
             state,
         };
     }
+    let ran = run_machine(program, memory, ram, given, budget);
     let last = ran.state;
     let state = lent_state(last);
     LentRan {
-        number,
-        steps,
+        number: ran.number,
+        steps: ran.steps,
         state,
     }
 }

@@ -4,10 +4,13 @@ use mathlib.Core.Path.{_≡_, sym, _∙_}
 use mathlib.Core.Logic.{_≢_}
 use borrow.Author.Needs.{needs}
 use borrow.Author.Tests.{ne-eqb, eq-eqb}
+use denote.Ref.{now}
 use Rattle.instructions.specs.declared.State.{State}
+use Rattle.instructions.specs.Step.{together}
 use Rattle.border.specs.declared.LentState.{LentState}
 use Rattle.border.specs.Lent.{lentState}
 use Rattle.merikohin.specs.Lends.{answered}
+use Rattle.machine.proofs.Numbered.{runs-refused}
 use Rattle.merikohin.proofs.Lends.{runs-of-equal}
 use Rattle.merikohin.proofs.merikohin_run.Statement.{statement}
 use Rattle.merikohin.proofs.merikohin_run.Tie as tie
@@ -21,8 +24,24 @@ accepted number given after h = rw (eq-eqb number 0 h)
 state-of-requires : tie.Need-state-of-requires
 state-of-requires c κs = search needs
 
+machine-number-requires : tie.Need-machine-number-requires
+machine-number-requires c κs = search needs
+
+returns : tie.Need-returns
+returns c =
+    let s = c .before .before .before .before .before .before in
+    let given = c .before .before .state-of in
+    record {
+      after = given .result;
+      runs = runs-of-equal (given .ensures) (runs-refused _ (together (given .result) (now (s .args .memory)) (now (s .args .ram))) _ _ (c .before .machine-number .ensures) (c .if1 .taken));
+      answers = sym (refused (c .before .machine-number .result) (s .args .state) (given .result) (c .if1 .taken));
+    }
+
 run-machine-requires : tie.Need-run-machine-requires
 run-machine-requires c κs = search needs
+
+lent-state-requires : tie.Need-lent-state-requires
+lent-state-requires c κs = search needs
 
 same-length : tie.Need-same-length
 same-length c = search needs
@@ -30,35 +49,17 @@ same-length c = search needs
 same-length-2 : tie.Need-same-length-2
 same-length-2 c = search needs
 
-returns : tie.Need-returns
-returns c =
-    let r = c .before .before .before .before .before in
-    let s = r .before .before .before .before .before .before .before in
-    let ran = r .run-machine .result in
-    record {
-      after = ran .state;
-      runs = runs-of-equal (r .before .state-of .ensures) (r .run-machine .ensures);
-      answers = sym (refused (ran .number) (s .args .state) (ran .state) (c .if1 .taken));
-    }
-
-lent-state-requires : tie.Need-lent-state-requires
-lent-state-requires c κs = search needs
-
-same-length-3 : tie.Need-same-length-3
-same-length-3 c = search needs
-
-same-length-4 : tie.Need-same-length-4
-same-length-4 c = search needs
-
 returns-2 : tie.Need-returns-2
 returns-2 c =
-    let r = c .before .before .before .before .before .before .before in
-    let s = r .before .before .before .before .before .before .before in
-    let ran = r .run-machine .result in
+    let r = c .before .before .before .before .before .before in
+    let n = r .before .before .before .before in
+    let s = n .before .before .before .before .before in
+    let ran = r .run-machine in
+    let none : ran .result .number ≡ 0 = ran .ensures .answers ∙ sym (n .machine-number .ensures) ∙ r .before .before .before .if1 .left in
     record {
-      after = ran .state;
-      runs = runs-of-equal (r .before .state-of .ensures) (r .run-machine .ensures);
-      answers = c .lent-state .ensures ∙ sym (accepted (ran .number) (s .args .state) (ran .state) (c .before .before .if1 .left));
+      after = ran .result .state;
+      runs = runs-of-equal (n .before .state-of .ensures) (ran .ensures);
+      answers = c .lent-state .ensures ∙ sym (accepted (ran .result .number) (s .args .state) (ran .result .state) none);
     }
 
 pub merikohin-run-spec : {M : Type 1} → statement M
@@ -66,11 +67,10 @@ merikohin-run-spec =
     tie.close
     (tie.spec
     state-of-requires
+    machine-number-requires
+    returns
     run-machine-requires
+    lent-state-requires
     same-length
     same-length-2
-    returns
-    lent-state-requires
-    same-length-3
-    same-length-4
     returns-2)
