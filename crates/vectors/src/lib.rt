@@ -1,0 +1,1 @@
+// The definitions on outside vectors, by computation. There is no code here.
