@@ -18,7 +18,7 @@ use Rattle.ints.proofs.Poly.{Exp, var, con, _⊕_, _⊖_, _⊗_, solve}
 use Rattle.ints.proofs.Order.{leZ-true, nonNeg-true, nonNeg-false, le-nonNeg, lt-nonNeg, ≤ℤ-trans, ≤ℤ-<ℤ-trans, le-of, le-to, lt-to, mul-nonneg, pos-le}
 use Rattle.ints.proofs.Bounds.{Within, within-pos, within-range, within-lit, within-sub, within-mul, within-31, fits-32}
 use Rattle.rules.specs.Turns.{choose}
-use Rattle.rules.specs.Triangles.{Edge, dx, edge1, edge2, edge3, edgeValue, sample, keepsZero, inside, positive, isZero}
+use Rattle.rules.specs.Triangles.{Edge, dx, edge1, edge2, edge3, edgeValue, sampleOffset, sample, keepsZero, inside, positive, isZero}
 use Rattle.rules.specs.Numbers.{vertexInRange, verticesInRange}
 use Rattle.rules.specs.declared.Triangle.{Triangle}
 use Rattle.cover.specs.Side.{sided, slope, sideAt, reachOf, fallOf, sideFrom, SideOf, edgeFrom, edgeInRange}
@@ -45,7 +45,7 @@ abbrev edgeE : Exp → Exp → Exp
 edgeE px py = (py ⊖ var 1) ⊗ (var 2 ⊖ var 0) ⊖ (px ⊖ var 0) ⊗ (var 3 ⊖ var 1)
 
 abbrev sampleE : Exp → Exp
-sampleE x = con (pos 8) ⊗ x
+sampleE x = con (pos 8) ⊗ x ⊕ con (pos sampleOffset)
 
 abbrev slopeE : Exp
 slopeE = con (pos 0) ⊖ con (pos 8) ⊗ (var 3 ⊖ var 1)
@@ -98,12 +98,13 @@ loss-within true = within-lit tt
 loss-within false = within-lit tt
 
 module _ (e : Edge) (w : EdgeWithin e) where
-  pub value-within : (x y : ℕ) → x ≤ 640 → y ≤ 512 → Within 419430400 (edgeValue e (sample x y))
+  -- wherever in its pixel the sample point lies
+  pub value-within : (x y : ℕ) → x ≤ 640 → y ≤ 512 → Within 419659776 (edgeValue e (sample x y))
   unfolding edgeValue sample
   value-within x y hx hy =
       within-sub
-      (within-mul (within-sub (within-pos {n = 4096} (omega arith)) (w .in-y1)) (within-sub (w .in-x2) (w .in-x1)))
-      (within-mul (within-sub (within-pos {n = 5120} (omega arith)) (w .in-x1)) (within-sub (w .in-y2) (w .in-y1)))
+      (within-mul (within-sub (within-pos {n = 4103} (omega arith)) (w .in-y1)) (within-sub (w .in-x2) (w .in-x1)))
+      (within-mul (within-sub (within-pos {n = 5127} (omega arith)) (w .in-x1)) (within-sub (w .in-y2) (w .in-y1)))
 
   pub sided-small : (x y : ℕ) → x ≤ 640 → y ≤ 512 → mag (sided e x y) < 2147483648
   unfolding sided

@@ -1,11 +1,14 @@
 -- An edge's differences and its value as the machine computes them, in 64 bits, from vertices in range.
 use mir.Syntax.{w32, w64}
 use Rattle.ints.proofs.Machine.{got-in, got-lit, Code, known, cast, _⊟_, _⊠_}
-use Rattle.rules.specs.Triangles.{Edge}
+use Rattle.rules.specs.Triangles.{Edge, sampleOffset}
 use Rattle.cover.proofs.Along.{EdgeWithin}
 
 abbrev pub zeroC : Code w64
 zeroC = known (got-lit w64 0 tt)
+
+abbrev pub offsetC : Code w64
+offsetC = known (got-lit w64 sampleOffset tt)
 
 abbrev pub eightC : Code w64
 eightC = known (got-lit w64 8 tt)

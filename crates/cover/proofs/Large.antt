@@ -1,4 +1,4 @@
--- Number 7 is never answered: with vertices in range and at most 640 by 512 pixels an edge value is within 419,430,400.
+-- Number 7 is never answered: with vertices in range and at most 640 by 512 pixels an edge value is within 419,659,776.
 use Prim.Native.Nat.{ℕ, _≤_}
 use mathlib.Core.Path.{_≡_, refl, sym, _∙_, ap}
 use mathlib.Core.Bool.{Bool, true, false, _&&_, _||_, not}
@@ -35,7 +35,7 @@ out-of-range (negsuc n) = rw (either (leb n 2147483647) true, not-leb n 21474836
 
 -- ---- never
 
-small : (z : ℤ) → Within 419430400 z → not (inSigned32 z) ≡ false
+small : (z : ℤ) → Within 419659776 z → not (inSigned32 z) ≡ false
 small (pos n) h = rw (le-leb n 2147483647 (omega (arith, h .within)))
 small (negsuc n) h = rw (le-leb n 2147483647 (omega (arith, h .within)))
 

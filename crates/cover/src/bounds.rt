@@ -1,6 +1,5 @@
 // Numbers 6 and 7: vertices and edge values in range.
-use crate::setup::SAMPLE_X;
-use crate::setup::SAMPLE_Y;
+use crate::setup::SAMPLE_OFFSET;
 use rules::Triangle;
 ghost use mathlib.Core.Path.{_≡_};
 ghost use mathlib.Core.Bool.{true, _&&_};
@@ -38,8 +37,8 @@ fn pixel_too_large(x1: i32, y1: i32, x2: i32, y2: i32, x: u32, y: u32) -> bool
 {
     let dx = x2 as i64 - x1 as i64;
     let dy = y2 as i64 - y1 as i64;
-    let px = 8 * (x as i64) + SAMPLE_X;
-    let py = 8 * (y as i64) + SAMPLE_Y;
+    let px = 8 * (x as i64) + SAMPLE_OFFSET;
+    let py = 8 * (y as i64) + SAMPLE_OFFSET;
     let v = (py - y1 as i64) * dx - (px - x1 as i64) * dy;
     (v < -2147483648) | (2147483647 < v)
 }

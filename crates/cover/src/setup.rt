@@ -13,10 +13,8 @@ ghost use Rattle.rules.specs.Triangles.{positive, isZero, negative};
 ghost use Rattle.rules.specs.Numbers.{verticesInRange};
 ghost use Rattle.cover.specs.Side.{edgeFrom, edgeInRange, sideFrom, valuesFrom, sidesFrom, SideOf, SidesOf};
 
-// The sample point of pixel (0, 0).
-pub const SAMPLE_X: i64 = 0;
-
-pub const SAMPLE_Y: i64 = 0;
+// How far to the right and down in its pixel the sample point lies.
+pub const SAMPLE_OFFSET: i64 = 0;
 
 // What an edge's value loses where its zeros are outside.
 fn loss(dx: i64, dy: i64) -> i64
@@ -41,7 +39,7 @@ pub fn side(x1: i32, y1: i32, x2: i32, y2: i32) -> Side
 {
     let dx = x2 as i64 - x1 as i64;
     let dy = y2 as i64 - y1 as i64;
-    let v = (SAMPLE_Y - y1 as i64) * dx - (SAMPLE_X - x1 as i64) * dy;
+    let v = (SAMPLE_OFFSET - y1 as i64) * dx - (SAMPLE_OFFSET - x1 as i64) * dy;
     let c = low32(v - loss(dx, dy));
     let a = low32(0 - 8 * dy);
     let b = low32(8 * dx);

@@ -12,17 +12,17 @@ use mir.ValLaws.{toZ-ofZ}
 use Rattle.ints.proofs.Order.{pos-le, ≤ℤ-<ℤ-trans}
 use Rattle.ints.proofs.Bounds.{fits-32}
 use Rattle.rules.specs.declared.Triangle.{Triangle}
-use Rattle.rules.specs.Triangles.{sample, insideAll}
+use Rattle.rules.specs.Triangles.{sampleOffset, sample, insideAll}
 use Rattle.rules.specs.Numbers.{vertexInRange}
 use Rattle.cover.specs.Extent.{Before, Beyond}
 use Rattle.cover.proofs.Along.{vertex-within}
 use Rattle.cover.proofs.Outside.{left-of, right-of, above, below}
 
 -- the sample point lies in its pixel
-after-start : {v : ℤ} (k : ℕ) → v <ℤ pos (8 * k) → v <ℤ pos (8 * k)
-after-start k h = h
+after-start : {v : ℤ} (k : ℕ) → v <ℤ pos (8 * k) → v <ℤ pos (8 * k + sampleOffset)
+after-start k h = <ℤ-≤ℤ-trans h (pos-le (omega arith))
 
-before-end : {v : ℤ} (k : ℕ) → pos (8 * k + 7) <ℤ v → pos (8 * k) <ℤ v
+before-end : {v : ℤ} (k : ℕ) → pos (8 * k + 7) <ℤ v → pos (8 * k + sampleOffset) <ℤ v
 before-end k h = ≤ℤ-<ℤ-trans (pos-le (omega arith)) h
 
 module _ (t : Triangle) (x y : ℕ) where

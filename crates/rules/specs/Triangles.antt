@@ -33,9 +33,12 @@ pub record Point : Type 0 where
   pub px : ℤ
   pub py : ℤ
 
--- "A pixel is sampled at the point (8x, 8y)."
+-- "A pixel is sampled at the point (8x, 8y)": nothing is added to 8x and 8y.
+abbrev pub sampleOffset : ℕ
+sampleOffset = 0
+
 unfoldable pub sample : ℕ → ℕ → Point
-sample x y = record { px = pos (8 * x); py = pos (8 * y) }
+sample x y = record { px = pos (8 * x + sampleOffset); py = pos (8 * y + sampleOffset) }
 
 -- "the directed edge from (x1, y1) to (x2, y2)"
 pub record Edge : Type 0 where

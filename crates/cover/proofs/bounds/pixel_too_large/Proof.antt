@@ -1,8 +1,6 @@
 -- The signed sums are within 64 bits by the vertices' range, and the two tests are those of signed 32 bits.
-use mathlib.Core.Path.{_≡_, sym, _∙_, ap}
+use mathlib.Core.Path.{_≡_, refl, sym, _∙_, ap}
 use mathlib.Core.Bool.{_||_}
-use native.Mathlib.Nat.{add-zero}
-use Prim.Native.Nat.{_*_}
 use lib.IntN.{ℤ, pos, negsuc}
 use lib.Signed.{ltZ}
 use mir.Syntax.{w64}
@@ -12,7 +10,7 @@ use Rattle.rules.specs.Numbers.{edgeTooLarge}
 use Rattle.cover.specs.Side.{edgeFrom}
 use Rattle.cover.proofs.Along.{EdgeWithin, edge-within}
 use Rattle.cover.proofs.Codes as code
-use Rattle.cover.proofs.Codes.{zeroC, eightC}
+use Rattle.cover.proofs.Codes.{offsetC, eightC}
 use Rattle.cover.proofs.Large.{out-of-range}
 use borrow.Author.Needs.{needs}
 use Rattle.cover.proofs.bounds.pixel_too_large.Statement.{statement}
@@ -31,10 +29,10 @@ abbrev row : tie.Start → Code w64
 row c = known (got-nat {w = w64} (c .pre .2) tt)
 
 abbrev px : tie.Start → Code w64
-px c = eightC ⊠ column c ⊞ zeroC
+px c = eightC ⊠ column c ⊞ offsetC
 
 abbrev py : tie.Start → Code w64
-py c = eightC ⊠ row c ⊞ zeroC
+py c = eightC ⊠ row c ⊞ offsetC
 
 abbrev dx : tie.Start → Code w64
 dx c = code.dxC (edge c) (in-range c)
@@ -110,7 +108,7 @@ sub-v-3 c = need (value c) tt
 
 meant-value : (c : tie.Start) → meant (value c) ≡ edgeValue (edge c) (sample (c .args .x) (c .args .y))
 unfolding edgeValue sample
-meant-value c = rw (add-zero (8 * c .args .x), add-zero (8 * c .args .y))
+meant-value c = refl
 
 returns : tie.Need-returns
 unfolding edgeTooLarge

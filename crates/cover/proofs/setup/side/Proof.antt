@@ -11,7 +11,7 @@ use Rattle.rules.specs.Triangles.{Edge, sample, edgeValue, keepsZero, negative,
 use Rattle.cover.specs.Side.{edgeFrom, sided, SideOf}
 use Rattle.cover.proofs.Along.{EdgeWithin, edge-within, loss-within, side-of}
 use Rattle.cover.proofs.Codes as code
-use Rattle.cover.proofs.Codes.{zeroC, eightC}
+use Rattle.cover.proofs.Codes.{offsetC, eightC}
 use Rattle.cover.proofs.setup.side.Statement.{statement}
 use Rattle.cover.proofs.setup.side.Tie as tie
 
@@ -31,13 +31,13 @@ abbrev slope : tie.Start → Code w64
 slope c = code.slopeC (edge c) (in-range c)
 
 abbrev up : tie.Start → Code w64
-up c = code.upC (edge c) (in-range c) zeroC zeroC
+up c = code.upC (edge c) (in-range c) offsetC offsetC
 
 abbrev left : tie.Start → Code w64
-left c = code.leftC (edge c) (in-range c) zeroC zeroC
+left c = code.leftC (edge c) (in-range c) offsetC offsetC
 
 abbrev value : tie.Start → Code w64
-value c = code.valueC (edge c) (in-range c) zeroC zeroC
+value c = code.valueC (edge c) (in-range c) offsetC offsetC
 
 abbrev lossOf : ℤ → ℤ → ℤ
 lossOf x y = choose (negative y || isZero y && positive x) (pos 0) (pos 1)
