@@ -1,8 +1,14 @@
 -- An edge's differences and its value as the machine computes them, in 64 bits, from vertices in range.
+use Prim.Native.Nat.{ℕ, _≤_}
+use mathlib.Core.Path.{_≡_, sym, _∙_, ap, subst}
+use mathlib.Core.Bool.{true}
+use lib.IntN.{ℤ}
 use mir.Syntax.{w32, w64}
+use Rattle.ints.proofs.Bounds.{Within}
 use Rattle.ints.proofs.Machine.{got-in, got-lit, Code, known, cast, _⊟_, _⊠_}
-use Rattle.rules.specs.Triangles.{Edge, sampleOffset}
-use Rattle.cover.proofs.Along.{EdgeWithin}
+use Rattle.rules.specs.Triangles.{Point, Edge, sampleOffset, sample, edgeValue}
+use Rattle.cover.specs.Side.{edgeInRange}
+use Rattle.cover.proofs.Along.{EdgeWithin, value-within, read, read-edge}
 
 abbrev pub zeroC : Code w64
 zeroC = known (got-lit w64 0 tt)
@@ -45,3 +51,11 @@ module _ (e : Edge) (w : EdgeWithin e) where
 
     abbrev pub valueC : Code w64
     valueC = upC ⊠ dxC ⊟ leftC ⊠ dyC
+
+-- an edge's value as `edge_value` answers it
+abbrev pub answeredC : (e : Edge) → EdgeWithin e → (x y : ℕ) → x ≤ 640 → y ≤ 512 → (z : ℤ) → z ≡ edgeValue e (sample x y) → Code w64
+answeredC e w x y hx hy z h = known (got-in {b = 419659776} (subst (Within 419659776) (sym h) (value-within e w x y hx hy)) tt)
+
+-- of the edge that it reads
+pub answered : (e : Edge) (p : Point) {z : ℤ} → edgeInRange e ≡ true → z ≡ edgeValue (read e) p → z ≡ edgeValue e p
+answered e p r h = h ∙ ap (λ (k : Edge). edgeValue k p) (read-edge e r)

@@ -1,5 +1,5 @@
 // Numbers 6 and 7: vertices and edge values in range.
-use crate::setup::SAMPLE_OFFSET;
+use crate::setup::edge_value;
 use rules::Triangle;
 ghost use mathlib.Core.Path.{_≡_};
 ghost use mathlib.Core.Bool.{true, _&&_};
@@ -35,11 +35,7 @@ fn pixel_too_large(x1: i32, y1: i32, x2: i32, y2: i32, x: u32, y: u32) -> bool
     requires { ⌜ (edgeInRange (edgeFrom x1 y1 x2 y2) ≡ true) × (x ≤ 640) × (y ≤ 512) ⌝ }
     ensures { λ r. ⌜ r ≡ edgeTooLarge (edgeFrom x1 y1 x2 y2) x y ⌝ }
 {
-    let dx = x2 as i64 - x1 as i64;
-    let dy = y2 as i64 - y1 as i64;
-    let px = 8 * (x as i64) + SAMPLE_OFFSET;
-    let py = 8 * (y as i64) + SAMPLE_OFFSET;
-    let v = (py - y1 as i64) * dx - (px - x1 as i64) * dy;
+    let v = edge_value(x1, y1, x2, y2, x, y);
     (v < -2147483648) | (2147483647 < v)
 }
 

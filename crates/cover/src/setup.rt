@@ -9,12 +9,25 @@ ghost use mathlib.Core.Path.{_≡_};
 ghost use mathlib.Core.Bool.{true, _||_, _&&_};
 ghost use lib.IntN.{pos};
 ghost use Rattle.rules.specs.Turns.{choose};
-ghost use Rattle.rules.specs.Triangles.{positive, isZero, negative};
+ghost use Prim.Native.Nat.{_≤_};
+ghost use Rattle.rules.specs.Triangles.{positive, isZero, negative, edgeValue, sample};
 ghost use Rattle.rules.specs.Numbers.{verticesInRange};
 ghost use Rattle.cover.specs.Side.{edgeFrom, edgeInRange, sideFrom, valuesFrom, sidesFrom, SideOf, SidesOf};
 
 // How far to the right and down in its pixel the sample point lies.
-pub const SAMPLE_OFFSET: i64 = 0;
+const SAMPLE_OFFSET: i64 = 0;
+
+// The edge's value at pixel (x, y).
+pub fn edge_value(x1: i32, y1: i32, x2: i32, y2: i32, x: u32, y: u32) -> i64
+    requires { ⌜ (edgeInRange (edgeFrom x1 y1 x2 y2) ≡ true) × (x ≤ 640) × (y ≤ 512) ⌝ }
+    ensures { λ r. ⌜ r ≡ edgeValue (edgeFrom x1 y1 x2 y2) (sample x y) ⌝ }
+{
+    let dx = x2 as i64 - x1 as i64;
+    let dy = y2 as i64 - y1 as i64;
+    let px = 8 * (x as i64) + SAMPLE_OFFSET;
+    let py = 8 * (y as i64) + SAMPLE_OFFSET;
+    (py - y1 as i64) * dx - (px - x1 as i64) * dy
+}
 
 // What an edge's value loses where its zeros are outside.
 fn loss(dx: i64, dy: i64) -> i64
@@ -39,7 +52,7 @@ pub fn side(x1: i32, y1: i32, x2: i32, y2: i32) -> Side
 {
     let dx = x2 as i64 - x1 as i64;
     let dy = y2 as i64 - y1 as i64;
-    let v = (SAMPLE_OFFSET - y1 as i64) * dx - (SAMPLE_OFFSET - x1 as i64) * dy;
+    let v = edge_value(x1, y1, x2, y2, 0, 0);
     let c = low32(v - loss(dx, dy));
     let a = low32(0 - 8 * dy);
     let b = low32(8 * dx);

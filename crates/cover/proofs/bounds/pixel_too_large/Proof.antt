@@ -1,142 +1,33 @@
--- The signed sums are within 64 bits by the vertices' range, and the two tests are those of signed 32 bits.
-use mathlib.Core.Path.{_≡_, refl, sym, _∙_, ap}
+-- The two tests are those of signed 32 bits, of the edge's value as its function reads it.
+use mathlib.Core.Path.{sym, _∙_, ap}
 use mathlib.Core.Bool.{_||_}
 use lib.IntN.{ℤ, pos, negsuc}
 use lib.Signed.{ltZ}
-use mir.Syntax.{w64}
-use Rattle.ints.proofs.Machine.{got-nat, Code, known, _⊞_, _⊠_, meant, need, reads-as}
+use Rattle.ints.proofs.Machine.{reads-as}
 use Rattle.rules.specs.Triangles.{Edge, sample, edgeValue}
 use Rattle.rules.specs.Numbers.{edgeTooLarge}
 use Rattle.cover.specs.Side.{edgeFrom}
-use Rattle.cover.proofs.Along.{EdgeWithin, edge-within}
-use Rattle.cover.proofs.Codes as code
-use Rattle.cover.proofs.Codes.{offsetC, eightC}
+use Rattle.cover.proofs.Along.{edge-within, read-in-range}
+use Rattle.cover.proofs.Codes.{answeredC, answered}
 use Rattle.cover.proofs.Large.{out-of-range}
-use borrow.Author.Needs.{needs}
 use Rattle.cover.proofs.bounds.pixel_too_large.Statement.{statement}
 use Rattle.cover.proofs.bounds.pixel_too_large.Tie as tie
 
 abbrev edge : tie.Start → Edge
 edge c = edgeFrom (c .args .x1) (c .args .y1) (c .args .x2) (c .args .y2)
 
-in-range : (c : tie.Start) → EdgeWithin (edge c)
-in-range c = edge-within (edge c) (c .pre .0)
-
-abbrev column : tie.Start → Code w64
-column c = known (got-nat {w = w64} (c .pre .1) tt)
-
-abbrev row : tie.Start → Code w64
-row c = known (got-nat {w = w64} (c .pre .2) tt)
-
-abbrev px : tie.Start → Code w64
-px c = eightC ⊠ column c ⊞ offsetC
-
-abbrev py : tie.Start → Code w64
-py c = eightC ⊠ row c ⊞ offsetC
-
-abbrev dx : tie.Start → Code w64
-dx c = code.dxC (edge c) (in-range c)
-
-abbrev dy : tie.Start → Code w64
-dy c = code.dyC (edge c) (in-range c)
-
-abbrev up : tie.Start → Code w64
-up c = code.upC (edge c) (in-range c) (px c) (py c)
-
-abbrev left : tie.Start → Code w64
-left c = code.leftC (edge c) (in-range c) (px c) (py c)
-
-abbrev value : tie.Start → Code w64
-value c = code.valueC (edge c) (in-range c) (px c) (py c)
-
-cast-dx : tie.Need-cast-dx
-cast-dx c = need (code.x2C (edge c) (in-range c)) tt
-
-cast-dx-2 : tie.Need-cast-dx-2
-cast-dx-2 c = need (code.x1C (edge c) (in-range c)) tt
-
-sub-dx : tie.Need-sub-dx
-sub-dx c = need (dx c) tt
-
-cast-dy : tie.Need-cast-dy
-cast-dy c = need (code.y2C (edge c) (in-range c)) tt
-
-cast-dy-2 : tie.Need-cast-dy-2
-cast-dy-2 c = need (code.y1C (edge c) (in-range c)) tt
-
-sub-dy : tie.Need-sub-dy
-sub-dy c = need (dy c) tt
-
-cast-px : tie.Need-cast-px
-cast-px c = search needs
-
-mul-px : tie.Need-mul-px
-mul-px c = need (eightC ⊠ column c) tt
-
-add-px : tie.Need-add-px
-add-px c = need (px c) tt
-
-cast-py : tie.Need-cast-py
-cast-py c = search needs
-
-mul-py : tie.Need-mul-py
-mul-py c = need (eightC ⊠ row c) tt
-
-add-py : tie.Need-add-py
-add-py c = need (py c) tt
-
-cast-v : tie.Need-cast-v
-cast-v c = need (code.y1C (edge c) (in-range c)) tt
-
-sub-v : tie.Need-sub-v
-sub-v c = need (up c) tt
-
-mul-v : tie.Need-mul-v
-mul-v c = need (up c ⊠ dx c) tt
-
-cast-v-2 : tie.Need-cast-v-2
-cast-v-2 c = need (code.x1C (edge c) (in-range c)) tt
-
-sub-v-2 : tie.Need-sub-v-2
-sub-v-2 c = need (left c) tt
-
-mul-v-2 : tie.Need-mul-v-2
-mul-v-2 c = need (left c ⊠ dy c) tt
-
-sub-v-3 : tie.Need-sub-v-3
-sub-v-3 c = need (value c) tt
-
-meant-value : (c : tie.Start) → meant (value c) ≡ edgeValue (edge c) (sample (c .args .x) (c .args .y))
-unfolding edgeValue sample
-meant-value c = refl
+edge-value-requires : tie.Need-edge-value-requires
+edge-value-requires c κs = (read-in-range (edge c) (c .pre .0), c .pre .1, c .pre .2)
 
 returns : tie.Need-returns
 unfolding edgeTooLarge
 returns c =
-    ap (λ (z : ℤ). ltZ z (negsuc 2147483647) || ltZ (pos 2147483647) z) (reads-as (value c) tt ∙ meant-value c)
-    ∙ sym (out-of-range (edgeValue (edge c) (sample (c .args .x) (c .args .y))))
+    let s = c .before in
+    let at = sample (s .args .x) (s .args .y) in
+    let z = answered (edge s) at (s .pre .0) (c .edge-value .ensures) in
+    let v = answeredC (edge s) (edge-within (edge s) (s .pre .0)) (s .args .x) (s .args .y) (s .pre .1) (s .pre .2) (c .edge-value .result) z in
+    ap (λ (z : ℤ). ltZ z (negsuc 2147483647) || ltZ (pos 2147483647) z) (reads-as v tt ∙ z)
+    ∙ sym (out-of-range (edgeValue (edge s) at))
 
 pub pixel-too-large-spec : {M : Type 1} → statement M
-pixel-too-large-spec =
-    tie.close
-    (tie.spec
-    cast-dx
-    cast-dx-2
-    sub-dx
-    cast-dy
-    cast-dy-2
-    sub-dy
-    cast-px
-    mul-px
-    add-px
-    cast-py
-    mul-py
-    add-py
-    cast-v
-    sub-v
-    mul-v
-    cast-v-2
-    sub-v-2
-    mul-v-2
-    sub-v-3
-    returns)
+pixel-too-large-spec = tie.close (tie.spec edge-value-requires returns)

@@ -1,17 +1,18 @@
 -- The signed sums are within 64 bits by the vertices' range, and c, a and b are the lowered value at pixel (0, 0) and its two steps.
 use mathlib.Core.Path.{_≡_, sym, _∙_, ap, ap₂, subst}
 use mathlib.Core.Bool.{_&&_, _||_}
+use native.Mathlib.Omega.{arith}
 use lib.IntN.{ℤ, pos, _-ℤ_}
 use mir.Syntax.{w64}
 use Rattle.ints.specs.Modulo.{mod32}
 use Rattle.ints.proofs.Bounds.{Within}
-use Rattle.ints.proofs.Machine.{got-in, Code, known, _⊟_, _⊠_, meant, need, reads-as}
+use Rattle.ints.proofs.Machine.{got-in, Code, known, _⊟_, _⊠_, need, reads-as}
 use Rattle.rules.specs.Turns.{choose}
 use Rattle.rules.specs.Triangles.{Edge, sample, edgeValue, keepsZero, negative, isZero, positive}
 use Rattle.cover.specs.Side.{edgeFrom, sided, SideOf}
-use Rattle.cover.proofs.Along.{EdgeWithin, edge-within, loss-within, side-of}
+use Rattle.cover.proofs.Along.{EdgeWithin, edge-within, loss-within, side-of, read-in-range}
 use Rattle.cover.proofs.Codes as code
-use Rattle.cover.proofs.Codes.{offsetC, eightC}
+use Rattle.cover.proofs.Codes.{eightC, answeredC, answered}
 use Rattle.cover.proofs.setup.side.Statement.{statement}
 use Rattle.cover.proofs.setup.side.Tie as tie
 
@@ -30,26 +31,23 @@ dy c = code.dyC (edge c) (in-range c)
 abbrev slope : tie.Start → Code w64
 slope c = code.slopeC (edge c) (in-range c)
 
-abbrev up : tie.Start → Code w64
-up c = code.upC (edge c) (in-range c) offsetC offsetC
-
-abbrev left : tie.Start → Code w64
-left c = code.leftC (edge c) (in-range c) offsetC offsetC
-
-abbrev value : tie.Start → Code w64
-value c = code.valueC (edge c) (in-range c) offsetC offsetC
-
 abbrev lossOf : ℤ → ℤ → ℤ
 lossOf x y = choose (negative y || isZero y && positive x) (pos 0) (pos 1)
 
-lost : (c : tie.After-loss) → c .loss .result ≡ choose (keepsZero (edge (c .before))) (pos 0) (pos 1)
+lost : (c : tie.After-loss) → c .loss .result ≡ choose (keepsZero (edge (c .before .before))) (pos 0) (pos 1)
 unfolding keepsZero
-lost c = c .loss .ensures ∙ ap₂ lossOf (reads-as (dx (c .before)) tt) (reads-as (dy (c .before)) tt)
+lost c = c .loss .ensures ∙ ap₂ lossOf (reads-as (dx (c .before .before)) tt) (reads-as (dy (c .before .before)) tt)
+
+valued : (c : tie.After-edge-value) → c .edge-value .result ≡ edgeValue (edge (c .before)) (sample 0 0)
+valued c = answered (edge (c .before)) (sample 0 0) (c .before .pre) (c .edge-value .ensures)
+
+abbrev value : tie.After-edge-value → Code w64
+value c = answeredC (edge (c .before)) (in-range (c .before)) 0 0 (omega arith) (omega arith) (c .edge-value .result) (valued c)
 
 abbrev lowered : tie.After-loss → Code w64
 lowered c =
     value (c .before)
-    ⊟ known (got-in {b = 1} (subst (Within 1) (sym (lost c)) (loss-within (keepsZero (edge (c .before))))) tt)
+    ⊟ known (got-in {b = 1} (subst (Within 1) (sym (lost c)) (loss-within (keepsZero (edge (c .before .before))))) tt)
 
 cast-dx : tie.Need-cast-dx
 cast-dx c = need (code.x2C (edge c) (in-range c)) tt
@@ -69,26 +67,8 @@ cast-dy-2 c = need (code.y1C (edge c) (in-range c)) tt
 sub-dy : tie.Need-sub-dy
 sub-dy c = need (dy c) tt
 
-cast-v : tie.Need-cast-v
-cast-v c = need (code.y1C (edge c) (in-range c)) tt
-
-sub-v : tie.Need-sub-v
-sub-v c = need (up c) tt
-
-mul-v : tie.Need-mul-v
-mul-v c = need (up c ⊠ dx c) tt
-
-cast-v-2 : tie.Need-cast-v-2
-cast-v-2 c = need (code.x1C (edge c) (in-range c)) tt
-
-sub-v-2 : tie.Need-sub-v-2
-sub-v-2 c = need (left c) tt
-
-mul-v-2 : tie.Need-mul-v-2
-mul-v-2 c = need (left c ⊠ dy c) tt
-
-sub-v-3 : tie.Need-sub-v-3
-sub-v-3 c = need (value c) tt
+edge-value-requires : tie.Need-edge-value-requires
+edge-value-requires c κs = (read-in-range (edge c) (c .pre), omega arith, omega arith)
 
 loss-requires : tie.Need-loss-requires
 loss-requires c κs = tt
@@ -100,16 +80,16 @@ low32-requires : tie.Need-low32-requires
 low32-requires c κs = tt
 
 mul-low32 : tie.Need-mul-low32
-mul-low32 c = need (eightC ⊠ dy (c .before .before)) tt
+mul-low32 c = need (eightC ⊠ dy (c .before .before .before)) tt
 
 sub-low32-2 : tie.Need-sub-low32-2
-sub-low32-2 c = need (slope (c .before .before)) tt
+sub-low32-2 c = need (slope (c .before .before .before)) tt
 
 low32-requires-2 : tie.Need-low32-requires-2
 low32-requires-2 c κs = tt
 
 mul-low32-2 : tie.Need-mul-low32-2
-mul-low32-2 c = need (eightC ⊠ dx (c .before .before .before)) tt
+mul-low32-2 c = need (eightC ⊠ dx (c .before .before .before .before)) tt
 
 low32-requires-3 : tie.Need-low32-requires-3
 low32-requires-3 c κs = tt
@@ -118,14 +98,14 @@ stepping-requires : tie.Need-stepping-requires
 stepping-requires c κs = tt
 
 -- the lowered value at pixel (0, 0)
-start : (c : tie.After-loss) → meant (value (c .before)) -ℤ c .loss .result ≡ sided (edge (c .before)) 0 0
-unfolding sided edgeValue sample
-start c = ap (λ (z : ℤ). meant (value (c .before)) -ℤ z) (lost c)
+start : (c : tie.After-loss) → c .before .edge-value .result -ℤ c .loss .result ≡ sided (edge (c .before .before)) 0 0
+unfolding sided
+start c = ap₂ _-ℤ_ (valued (c .before)) (lost c)
 
 returns : tie.Need-returns
 returns c =
     let l = c .before .before .before .before in
-    let s = l .before in
+    let s = l .before .before in
     subst (SideOf (edge s)) (sym (c .stepping .ensures))
     (side-of (edge s) (c .before .before .before .low32 .result) (c .before .before .low322 .result) (c .before .low323 .result)
     (c .before .before .before .low32 .ensures ∙ ap mod32 (reads-as (lowered l) tt ∙ start l))
@@ -142,13 +122,7 @@ side-spec =
     cast-dy
     cast-dy-2
     sub-dy
-    cast-v
-    sub-v
-    mul-v
-    cast-v-2
-    sub-v-2
-    mul-v-2
-    sub-v-3
+    edge-value-requires
     loss-requires
     sub-low32
     low32-requires
