@@ -8,3 +8,4 @@ pub mod WellFormed
 pub mod Run
 pub mod Trees
 pub mod Unique
+pub mod Meaning
