@@ -87,6 +87,7 @@ module _ (m₀ : List ℕ) (s : Screen) (t : Triangle) (d : Sides) (y a b : ℕ)
     group-on h =
         record {
           is-sound = subst (λ (n : ℕ). sound n s ≡ true) (sym length-across) (q .is-sound);
+          whole = omega arith;
           columns = omega (arith, q .columns);
           row = q .row;
         }

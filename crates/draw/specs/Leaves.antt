@@ -1,5 +1,5 @@
 -- What drawing one leaf and one group of sixteen promises.
-use Prim.Native.Nat.{ℕ, _+_, _≤_, _<_}
+use Prim.Native.Nat.{ℕ, _+_, _%_, _≤_, _<_}
 use mathlib.Core.Path.{_≡_}
 use mathlib.Core.Logic.{_≢_}
 use mathlib.Core.Bool.{Bool, true, _&&_}
@@ -26,6 +26,7 @@ pub record LeafDone (m : List ℕ) (colour depth : ℕ) (v : Tints) (before answ
 -- the leaves of the group that starts at pixel (x, y), on the screen
 pub record GroupOn (n : ℕ) (s : Screen) (x y : ℕ) : Type 0 where
   pub is-sound : sound n s ≡ true
+  pub whole : x % 16 ≡ 0
   pub columns : x + 16 ≤ width (s .size)
   pub row : y < height (s .size)
 

@@ -28,22 +28,24 @@ pub fn leaf(ram: &mut [u8], colour: usize, depth: usize, v: Tints, written: u32)
     written + 1
 }
 
-// The leaves that the mask names: from the first one on there are as many as it has ones, without a gap. It answers how many were written.
+// The leaves that the mask names: from the first one on there are as many as it has ones, without a gap, and their half-words stand side by
+// side. It answers how many were written.
 pub fn group(ram: &mut [u8], s: Screen, t: Triangle, x: u32, y: u32, mask: u16) -> u32
     requires { ⌜ GroupAsked (length (now ram)) s t x y mask ⌝ }
     ensures { λ r. ⌜ GroupDone (now (ram .entry)) s t x y r (now (ram .exit)) ⌝ }
 {
-    let mut k = u16::leading_zeros(mask);
-    let mut left = u16::count_ones(mask);
-    let mut v = tints_at(t, x + k, y);
+    let first = u16::leading_zeros(mask);
+    let count = u16::count_ones(mask);
+    let colour = colour_place(s, x + first, y);
+    let depth = depth_place(s, x + first, y);
+    let mut v = tints_at(t, x + first, y);
     let mut written: u32 = 0;
-    while left != 0 {
-        let colour = colour_place(s, x + k, y);
-        let depth = depth_place(s, x + k, y);
-        written = leaf(ram, colour, depth, v, written);
+    let mut i: u32 = 0;
+    while i < count {
+        let past = 2 * i as usize;
+        written = leaf(ram, colour + past, depth + past, v, written);
         v = tints_right(v, t);
-        k += 1;
-        left -= 1;
+        i += 1;
     }
     written
 }

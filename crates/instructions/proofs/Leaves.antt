@@ -1,8 +1,8 @@
 -- The tree leaf by leaf: what leaf k holds after each of its instructions, once over the leaf number.
 use Prim.Native.Nat.{ℕ, zero, suc, _*_, _<_}
-use mathlib.Core.Path.{_≡_, refl, ap}
+use mathlib.Core.Path.{_≡_, refl, ap, ap₂}
 use mathlib.Core.Bool.{Bool, true, false, _&&_, _||_, not}
-use mathlib.Core.List.{List}
+use mathlib.Core.List.{List, _∷_}
 use native.Mathlib.Nat.{le-of-suc-le-suc, not-suc-le-zero}
 use native.Mathlib.Omega.{arith}
 use lib.ListN.{length, getD}
@@ -27,6 +27,15 @@ module _ {A : Type 0} where
 
   pub leaf-at : (f : ℕ → A) {k : ℕ} (d : A) → k < 16 → getD (leaves f) k d ≡ f k
   leaf-at f {k} d h = each-at f 16 k d h
+
+  each-same : (f g : ℕ → A) (n : ℕ) → ((k : ℕ) → k < n → f k ≡ g k) → each f n ≡ each g n
+  unfolding each
+  each-same f g zero h = refl
+  each-same f g (suc n) h =
+      ap₂ _∷_ (h 0 (omega arith)) (each-same (λ k. f (suc k)) (λ k. g (suc k)) n (λ k l. h (suc k) (omega arith)))
+
+  pub leaves-same : {f g : ℕ → A} → ((k : ℕ) → k < 16 → f k ≡ g k) → leaves f ≡ leaves g
+  leaves-same {f} {g} h = each-same f g 16 h
 
 -- leaf k of a tree, whole
 pub record Leaf (t : Tree) (k : ℕ) (inside outside : Bool) (colour depth : ℕ) : Type 0 where

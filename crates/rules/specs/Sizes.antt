@@ -30,14 +30,16 @@ even n = eqb (n % 2) 0
 abbrev pub area : ℕ → ℕ
 area S = width S * height S * 2
 
--- "A screen is sound when S is in that range, both starts are even, each area lies within RAM, and the areas do not overlap.
--- Touching is allowed."
-unfoldable pub sound : ℕ → Screen → Bool
-sound ramLength s =
-    sizeInRange (s .size)
-    && (even (s .colour) && even (s .depth))
+-- "both starts are even, each area lies within RAM, and the areas do not overlap. Touching is allowed."
+unfoldable pub soundAreas : ℕ → Screen → Bool
+soundAreas ramLength s =
+    (even (s .colour) && even (s .depth))
     && (leb (s .colour + area (s .size)) ramLength && leb (s .depth + area (s .size)) ramLength)
     && (leb (s .colour + area (s .size)) (s .depth) || leb (s .depth + area (s .size)) (s .colour))
+
+-- "A screen is sound when S is in that range" and its areas are
+unfoldable pub sound : ℕ → Screen → Bool
+sound ramLength s = sizeInRange (s .size) && soundAreas ramLength s
 
 -- where the colour and the depth of pixel (x, y) stand, "row by row"
 unfoldable pub colourAt : Screen → ℕ → ℕ → ℕ

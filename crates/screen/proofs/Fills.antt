@@ -10,14 +10,13 @@ use lib.ListN.{length}
 use borrow.Author.Tests.{eq-eqb, ne-eqb}
 use Rattle.rules.specs.declared.Screen.{Screen}
 use Rattle.rules.specs.Turns.{upto}
-use Rattle.rules.specs.Sizes.{width, height, area, colourAt, depthAt, putHalf, putPixel}
+use Rattle.rules.specs.Sizes.{width, height, area, putHalf, putPixel}
 use Rattle.rules.specs.Numbers.{clearNumber}
 use Rattle.rules.specs.Calls.{cleared, Clears}
 use Rattle.rules.proofs.Turns.{upto-more, upto-keeps}
 use Rattle.rules.proofs.Halves.{Apart, length-putHalf, putHalf-comm}
-use Rattle.rules.proofs.Pixels.{Sound}
+use Rattle.rules.proofs.Places.{Sound, colour-in-area, depth-in-area}
 use Rattle.screen.specs.Fills.{filled}
-use Rattle.screen.proofs.Accepted.{accepted-clear}
 use Rattle.screen.proofs.Runs.{upto-pairs, upto-rows}
 use Rattle.screen.proofs.Tests.{chosen, other}
 
@@ -57,7 +56,7 @@ pixelCount s = width (s .size) * height (s .size)
 
 module _ {n : ℕ} {s : Screen} (k : Sound n s) (c d : ℕ) where
   apart : (i j : ℕ) → i < pixelCount s → j < pixelCount s → Apart (s .colour + j * 2) (s .depth + i * 2)
-  apart i j p q = go (k .areas-apart)
+  apart i j p q = go (k .laid .areas-apart)
     where
       go : (s .colour + area (s .size) ≤ s .depth) ⊎ (s .depth + area (s .size) ≤ s .colour)
           → Apart (s .colour + j * 2) (s .depth + i * 2)
@@ -65,7 +64,7 @@ module _ {n : ℕ} {s : Screen} (k : Sound n s) (c d : ℕ) where
       go (inr h) = inr (omega arith)
 
   pub two-fills : (m : List ℕ) → filled (s .depth) d (pixelCount s) (filled (s .colour) c (pixelCount s) m) ≡ cleared s c d m
-  unfolding filled cleared putPixel colourAt depthAt
+  unfolding filled cleared putPixel
   two-fills m =
       upto-pairs
       (λ j b. putHalf b (s .colour + j * 2) c)
@@ -75,17 +74,21 @@ module _ {n : ℕ} {s : Screen} (k : Sound n s) (c d : ℕ) where
       (λ i j b p q. putHalf-comm b (s .colour + j * 2) c (s .depth + i * 2) d (apart i j p q))
       ∙ ap (λ k. upto both k m) (mul-comm (width (s .size)) (height (s .size)))
       ∙ sym (upto-rows both (width (s .size)) (height (s .size)) m)
+      ∙ sym (λ i. upto (λ y. upto (λ x b. putHalf (putHalf b (colour-in-area s x y i) c) (depth-in-area s x y i) d)
+      (width (s .size))) (height (s .size)) m)
     where
       both : ℕ → List ℕ → List ℕ
       both i b = putHalf (putHalf b (s .colour + i * 2) c) (s .depth + i * 2) d
+
+  pub areas-filled : (m : List ℕ) {m₁ m₂ : List ℕ} {count : ℕ} → count ≡ pixelCount s
+      → m₁ ≡ filled (s .colour) c count m → m₂ ≡ filled (s .depth) d count m₁ → m₂ ≡ cleared s c d m
+  areas-filled m e p q = rw (q, p, e) (two-fills m)
 
 module _ (m : List ℕ) (s : Screen) (c d : ℕ) (r : ℕ) (answers : r ≡ clearNumber (length m) s) where
   pub refused : ¬ (r ≡ 0) → Clears m s c d r m
   refused z = record { answers = answers; leaves = other _ (cleared s c d m) m (ne-eqb _ _ (λ p. z (answers ∙ p))) }
 
-  pub done : r ≡ 0 → (k : ℕ) → k ≡ pixelCount s → (m₁ m₂ : List ℕ)
-      → m₁ ≡ filled (s .colour) c k m → m₂ ≡ filled (s .depth) d k m₁ → Clears m s c d 0 m₂
-  done z k e m₁ m₂ p q =
+  pub done : r ≡ 0 → (after : List ℕ) → after ≡ cleared s c d m → Clears m s c d 0 after
+  done z after e =
       let zero : clearNumber (length m) s ≡ 0 = sym answers ∙ z in
-      let both : m₂ ≡ cleared s c d m = rw (q, p, e) (two-fills (accepted-clear (length m) s zero) c d m) in
-      record { answers = sym zero; leaves = both ∙ chosen _ (cleared s c d m) m (eq-eqb _ _ zero) }
+      record { answers = sym zero; leaves = e ∙ chosen _ (cleared s c d m) m (eq-eqb _ _ zero) }

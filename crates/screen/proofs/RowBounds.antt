@@ -12,9 +12,8 @@ use Rattle.rules.specs.Turns.{choose}
 use Rattle.rules.specs.Sizes.{width, colourAt}
 use Rattle.rules.specs.Numbers.{rowNumber}
 use Rattle.rules.specs.Calls.{rowStart, rowLength, rowBytes}
-use Rattle.rules.proofs.Pixels.{row-fits}
+use Rattle.rules.proofs.Rows.{accepted-row}
 use Rattle.screen.specs.Rows.{Locates}
-use Rattle.screen.proofs.Accepted.{accepted-row}
 use Rattle.screen.proofs.Tests.{chosen, other}
 
 module _ (n : ℕ) (s : Screen) (row : ℕ) where
@@ -23,7 +22,7 @@ module _ (n : ℕ) (s : Screen) (row : ℕ) where
   part-fits = go (eqb (rowNumber n s row) 0) refl
     where
       go : (t : Bool) → eqb (rowNumber n s row) 0 ≡ t → choose t (colourAt s 0 row) 0 + choose t (2 * width (s .size)) 0 ≤ n
-      go true e = let p = accepted-row n s row (eqb-true (rowNumber n s row) 0 e) in row-fits (p .0) (p .1)
+      go true e = accepted-row n s row (eqb-true (rowNumber n s row) 0 e) .fits
       go false e = omega arith
 
   pub refused : (k : ℕ) → k ≡ rowNumber n s row → ¬ (k ≡ 0) → Locates n s row (record { number = k; start = 0; length = 0 })

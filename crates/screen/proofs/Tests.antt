@@ -19,14 +19,11 @@ pub and-assoc : (a b d : Bool) → (a && b && d) ≡ (a && (b && d))
 and-assoc true b d = refl
 and-assoc false b d = refl
 
-pub first-fails : (a b d e : Bool) → a ≡ false → false ≡ (a && b && d && e)
-first-fails a b d e p = rw p
+pub first-fails : (a b d : Bool) → a ≡ false → false ≡ (a && b && d)
+first-fails a b d p = rw p
 
-pub second-fails : (a b d e : Bool) → a ≡ true → b ≡ false → false ≡ (a && b && d && e)
-second-fails a b d e p q = rw (p, q)
-
-pub two-pass : (a b d e : Bool) → a ≡ true → b ≡ true → (d && e) ≡ (a && b && d && e)
-two-pass a b d e p q = rw (p, q)
+pub first-passes : (a b d : Bool) → a ≡ true → (b && d) ≡ (a && b && d)
+first-passes a b d p = rw p
 
 pub chosen : {A : Type 0} (t : Bool) (a b : A) → t ≡ true → a ≡ choose t a b
 chosen t a b e = rw e

@@ -1,7 +1,9 @@
 ghost use Prim.Native.Nat.{_+_, _*_, _≤_};
 ghost use mathlib.Core.Path.{_≡_};
 ghost use lib.ListN.{length};
-ghost use Rattle.rules.specs.Calls.{Clears};
+ghost use mathlib.Core.Bool.{true};
+ghost use Rattle.rules.specs.Sizes.{sound};
+ghost use Rattle.rules.specs.Calls.{Clears, cleared};
 ghost use Rattle.screen.specs.Fills.{filled};
 use crate::sizes::pixel_count;
 use crate::sizes::screen_number;
@@ -23,6 +25,16 @@ fn fill(ram: &mut [u8], start: usize, count: usize, v: u16)
     }
 }
 
+// Two areas, one after the other.
+fn fill_areas(ram: &mut [u8], s: Screen, colour: u16, depth: u16)
+    requires { ⌜ sound (length (now ram)) s ≡ true ⌝ }
+    ensures { λ _. ⌜ now (ram .exit) ≡ cleared s colour depth (now (ram .entry)) ⌝ }
+{
+    let count = pixel_count(s.size);
+    fill(ram, s.colour as usize, count, colour);
+    fill(ram, s.depth as usize, count, depth);
+}
+
 pub fn clear(ram: &mut [u8], s: Screen, colour: u16, depth: u16) -> u32
     ensures { λ r. ⌜ Clears (now (ram .entry)) s colour depth r (now (ram .exit)) ⌝ }
 {
@@ -30,8 +42,6 @@ pub fn clear(ram: &mut [u8], s: Screen, colour: u16, depth: u16) -> u32
     if number != 0 {
         return number;
     }
-    let count = pixel_count(s.size);
-    fill(ram, s.colour as usize, count, colour);
-    fill(ram, s.depth as usize, count, depth);
+    fill_areas(ram, s, colour, depth);
     0
 }

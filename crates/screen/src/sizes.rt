@@ -2,7 +2,7 @@ ghost use Prim.Native.Nat.{_*_, _^_, _<_};
 ghost use mathlib.Core.Bool.{_&&_};
 ghost use mathlib.Core.Path.{_≡_};
 ghost use Rattle.rules.specs.Numbers.{clearNumber, tooLong};
-ghost use Rattle.rules.specs.Sizes.{area, colourAt, depthAt, height, sizeInRange, sound, width};
+ghost use Rattle.rules.specs.Sizes.{area, colourAt, depthAt, height, sizeInRange, sound, soundAreas, width};
 ghost use Rattle.screen.specs.Places.{areasApart, areasFit, between, evenStarts, placeAt};
 use rules::Screen;
 
@@ -64,17 +64,23 @@ fn areas_apart(s: Screen, bytes: u64) -> bool
     s.colour as u64 + bytes <= s.depth as u64 || s.depth as u64 + bytes <= s.colour as u64
 }
 
+fn sound_areas(len: usize, s: Screen) -> bool
+    ensures { λ r. ⌜ r ≡ soundAreas len s ⌝ }
+{
+    if !even_starts(s) {
+        return false;
+    }
+    let bytes = area(s.size);
+    areas_fit(len, s, bytes) && areas_apart(s, bytes)
+}
+
 pub fn sound(len: usize, s: Screen) -> bool
     ensures { λ r. ⌜ r ≡ sound len s ⌝ }
 {
     if !size_in_range(s.size) {
         return false;
     }
-    if !even_starts(s) {
-        return false;
-    }
-    let bytes = area(s.size);
-    areas_fit(len, s, bytes) && areas_apart(s, bytes)
+    sound_areas(len, s)
 }
 
 pub fn too_long(len: usize) -> bool

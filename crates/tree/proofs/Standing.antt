@@ -17,12 +17,18 @@ module _ {n : ℕ} {s : Screen} {t : Tree} (p : Placed n s t) where
   unfolding refusesPlace
   inside = not-false _ (p .accepted)
 
+  whole : t .column % 16 ≡ 0
+  whole =
+      let b : Bool = eqb (t .column % 16) 0 in
+      let d : Bool = ltb (t .column) (width (s .size)) in
+      eqb-true _ _ (and-l b d (and-l (b && d) (ltb (t .row) (height (s .size))) inside))
+
   pub leaf-on : {k : ℕ} → k < 16 → On s (t .column + k) (t .row)
   leaf-on h =
       let b : Bool = eqb (t .column % 16) 0 in
       let d : Bool = ltb (t .column) (width (s .size)) in
       let e : Bool = ltb (t .row) (height (s .size)) in
-      let whole : t .column % 16 ≡ 0 = eqb-true _ _ (and-l b d (and-l (b && d) e inside)) in
+      let start : t .column % 16 ≡ 0 = whole in
       let across : t .column < width (s .size) = ltb-true _ _ (and-r b d (and-l (b && d) e inside)) in
       record { across = omega arith; down = ltb-true _ _ (and-r (b && d) e inside) }
 
@@ -32,9 +38,9 @@ module _ {n : ℕ} {s : Screen} {t : Tree} (p : Placed n s t) where
   pub colour-leaf-fits : {k : ℕ} → k < 16 → colourAt s (t .column + k) (t .row) + 1 < n
   colour-leaf-fits h = colour-fits (sound-facts (p .is-sound)) (leaf-on h)
 
--- the leaves' half-words stand side by side, from the first leaf's on
-pub colour-from : (s : Screen) (x y : ℕ) {first : ℕ} → first ≡ colourAt s x y → (k : ℕ) → first + 2 * k ≡ colourAt s (x + k) y
-colour-from s x y e k = ap (λ n. n + 2 * k) e ∙ sym (colour-leaf s x k y)
+  -- the leaves' half-words stand side by side, from the first leaf's on
+  pub colour-from : {first k : ℕ} → first ≡ colourAt s (t .column) (t .row) → k < 16 → first + 2 * k ≡ colourAt s (t .column + k) (t .row)
+  colour-from {first} {k} e h = ap (λ n. n + 2 * k) e ∙ sym (colour-leaf (sound-facts (p .is-sound)) (t .column) k (t .row) whole h)
 
-pub depth-from : (s : Screen) (x y : ℕ) {first : ℕ} → first ≡ depthAt s x y → (k : ℕ) → first + 2 * k ≡ depthAt s (x + k) y
-depth-from s x y e k = ap (λ n. n + 2 * k) e ∙ sym (depth-leaf s x k y)
+  pub depth-from : {first k : ℕ} → first ≡ depthAt s (t .column) (t .row) → k < 16 → first + 2 * k ≡ depthAt s (t .column + k) (t .row)
+  depth-from {first} {k} e h = ap (λ n. n + 2 * k) e ∙ sym (depth-leaf (sound-facts (p .is-sound)) (t .column) k (t .row) whole h)

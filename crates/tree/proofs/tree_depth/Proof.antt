@@ -1,6 +1,6 @@
 -- `tree_depth` gives TREEVAL 0's tree: the loop fills the marks and the depths leaf by leaf, its value goes from leaf to leaf, and the
 -- half-words that it judges by are the leaves' stored depths, which stand side by side. Assumes nothing.
-use Prim.Native.Nat.{ℕ, _+_, _*_, _-_, _/_, _≤_}
+use Prim.Native.Nat.{ℕ, _+_, _*_, _-_, _/_, _≤_, _<_}
 use mathlib.Core.Path.{_≡_, _∙_, ap, ap₂}
 use mathlib.Core.Bool.{Bool, true, false, _&&_, _||_, not}
 use mathlib.Core.List.{List}
@@ -10,8 +10,8 @@ use lib.ListN.{getD}
 use borrow.Author.Needs.{needs}
 use Rattle.rules.specs.Sizes.{half}
 use Rattle.rules.specs.Triangles.{topHalf}
-use Rattle.instructions.specs.Tree.{markI, markO, leafValue, marked, deepened, treeDepth}
-use Rattle.instructions.proofs.Leaves.{leaf-at}
+use Rattle.instructions.specs.Tree.{markI, markO, leafValue, marked, deepened, tooDeep, treeDepth}
+use Rattle.instructions.proofs.Leaves.{leaf-at, leaves-same}
 use Rattle.tree.proofs.Filled.{Filled, filled-none, filled-kept, filled-more, filled-all}
 use Rattle.tree.proofs.Values.{value-first, value-next, value-small}
 use Rattle.tree.proofs.Standing.{depth-leaf-fits, depth-from}
@@ -42,7 +42,7 @@ load-halves-requires c κs =
     let a = q .args in
     omega (
       arith,
-      depth-from (a .s) (a .tree .column) (a .tree .row) (c .depth-place .ensures) 15,
+      depth-from (q .pre) {k = 15} (c .depth-place .ensures) (omega arith),
       depth-leaf-fits (q .pre) {k = 15} (omega arith),
     )
 
@@ -117,23 +117,24 @@ returns : tie.Need-returns Inv-loop μ-loop
 unfolding treeDepth marked deepened
 returns c =
     let l = c .before .loop in
-    let a = c .before .before .before .before .before .before .before .before .before .args in
+    let q = c .before .before .before .before .before .before .before .before .before in
+    let a = q .args in
     let t = a .tree in
     let e : l .k ≡ 16 = omega arith in
-    let at = depth-from (a .s) (t .column) (t .row) (c .before .before .before .depth-place .ensures) in
-    (λ i. record {
+    let at : (k : ℕ)
+    → k < 16
+    → deep (a .ram .now) (a .a) (a .b) k (c .before .before .before .depth-place .result + 2 * k)
+    ≡ tooDeep (a .s) (a .ram .now) (a .a) (a .b) t k =
+    λ k h. ap (deep (a .ram .now) (a .a) (a .b) k) (depth-from (q .pre) (c .before .before .before .depth-place .ensures) h) in
+    λ i. record {
       column = t .column;
       row = t .row;
-      inside = filled-all (l .inv .2) e i;
-      outside = filled-all (l .inv .3) e i;
+      inside = (filled-all (l .inv .2) e ∙ leaves-same (λ k h. ap (λ m. markI t k && not m) (at k h))) i;
+      outside = (filled-all (l .inv .3) e ∙ leaves-same (λ k h. ap (λ m. markO t k || m) (at k h))) i;
       colour = t .colour;
       depth = filled-all (l .inv .4) e i;
       held = true;
-    })
-    ∙ (λ i. marked
-    (λ k. markI t k && not (deep (a .ram .now) (a .a) (a .b) k (at k i)))
-    (λ k. markO t k || deep (a .ram .now) (a .a) (a .b) k (at k i))
-    (deepened (a .a) (a .b) t))
+    }
 
 pub tree-depth-spec : {M : Type 1} → statement M
 tree-depth-spec =

@@ -1,7 +1,7 @@
 -- `tree_put` leaves `treePut`. The loop's invariant: the first `k` leaves are put, which are the definition's first `k` turns; the leaves'
 -- half-words stand side by side from the first on. `.t3` is the tree, the third argument. Assumes nothing.
 use Prim.Native.Nat.{ℕ, _+_, _*_, _-_, _≤_, _<_}
-use mathlib.Core.Path.{_≡_, refl, sym, _∙_, ap}
+use mathlib.Core.Path.{_≡_, refl, sym, _∙_, ap, ap₂}
 use mathlib.Core.Logic.{⊎-elim}
 use mathlib.Core.Bool.{true, false}
 use mathlib.Core.List.{List}
@@ -10,7 +10,7 @@ use lib.ListN.{length}
 use borrow.Author.Needs.{needs}
 use Rattle.rules.specs.Turns.{upto, choose}
 use Rattle.rules.specs.Sizes.{putPixel}
-use Rattle.rules.proofs.Turns.{upto-none, upto-more}
+use Rattle.rules.proofs.Turns.{upto-none, upto-more, upto-same}
 use Rattle.instructions.specs.declared.Tree.{Tree}
 use Rattle.instructions.specs.Tree.{isPut, leafColour, leafDepth, leafPut, treePut}
 use Rattle.tree.specs.Leaves.{stored}
@@ -38,9 +38,9 @@ fits c =
     let a = q .args in
     let l = c .before .loop in
     let h = c .loop-test .taken in (
-      rw (l .inv .1, colour-from (a .s) (a .t3 .column) (a .t3 .row) (c .before .before .before .colour-place .ensures) (l .k))
+      rw (l .inv .1, colour-from (q .pre) (c .before .before .before .colour-place .ensures) h)
           (colour-leaf-fits (q .pre) h),
-      rw (l .inv .1, depth-from (a .s) (a .t3 .column) (a .t3 .row) (c .before .before .depth-place .ensures) (l .k))
+      rw (l .inv .1, depth-from (q .pre) (c .before .before .depth-place .ensures) h)
           (depth-leaf-fits (q .pre) h),
     )
 
@@ -135,12 +135,15 @@ returns : tie.Need-returns Inv-loop μ-loop
 unfolding treePut leafPut putPixel stored
 returns c =
     let l = c .before .loop in
-    let a = c .before .before .before .before .before .args in
+    let q = c .before .before .before .before .before in
+    let a = q .args in
     let t = a .t3 in
     let e : l .k ≡ 16 = omega arith in
-    let colour = colour-from (a .s) (t .column) (t .row) (c .before .before .before .colour-place .ensures) in
-    let depth = depth-from (a .s) (t .column) (t .row) (c .before .before .depth-place .ensures) in
-    (rw e at (l .inv .2)) ∙ (λ i. upto (λ k. leafAt t (colour k i) (depth k i) k) 16 (a .ram .now))
+    (rw e at (l .inv .2))
+    ∙ upto-same _ (leafPut (a .s) t) 16 (a .ram .now)
+    (λ k m h. ap₂ (λ (colour depth : ℕ). leafAt t colour depth k m)
+    (colour-from (q .pre) (c .before .before .before .colour-place .ensures) h)
+    (depth-from (q .pre) (c .before .before .depth-place .ensures) h))
 
 pub tree-put-spec : {M : Type 1} → statement M
 tree-put-spec =
