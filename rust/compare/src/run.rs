@@ -21,7 +21,7 @@ pub struct Run {
     pub minutes: u64,
     /// Print each case before it is run.
     pub trace: bool,
-    /// Print neither group lines nor mismatches.
+    /// Print neither group lines nor mismatches, and end with the first group that has one.
     pub quiet: bool,
     /// Mismatches shown in full in each group.
     pub shown_at_most: u64,
@@ -60,6 +60,9 @@ impl Run {
 
     /// Runs one group and prints its line.
     pub fn group(&mut self, name: &str, body: impl FnOnce(&mut Run, &mut Rng)) {
+        if self.quiet && self.mismatches > 0 {
+            return;
+        }
         let before = (self.comparisons, self.mismatches);
         self.group = name.to_string();
         self.shown = 0;
