@@ -6,24 +6,18 @@ use native.Mathlib.Omega.{arith}
 use lib.Dec.{leb, ltb}
 use lib.IntN.{ℤ, pos, negsuc}
 use lib.Signed.{ltZ}
-use borrow.Author.Tests.{leb-true, leb-false, lt-ltb, le-ltb, le-leb}
+use borrow.Author.Tests.{le-leb}
 use Rattle.ints.proofs.Bounds.{Within}
 use Rattle.rules.specs.declared.Triangle.{Triangle}
 use Rattle.rules.specs.Turns.{pixels}
 use Rattle.rules.specs.Triangles.{Edge, edge1, edge2, edge3, edgeValue, sample}
 use Rattle.rules.specs.Numbers.{inSigned32, verticesInRange, edgeTooLarge, triangleTooLarge}
+use Rattle.rules.proofs.Choices.{not-leb}
 use Rattle.rules.proofs.Turns.{pixels-none}
 use Rattle.cover.specs.Side.{edgeInRange}
 use Rattle.cover.proofs.Along.{edge-within, value-within, edges-in-range, read, read-in-range}
 
 -- ---- the range as two tests
-
-not-leb : (a b : ℕ) → not (leb a b) ≡ ltb b a
-not-leb a b = go (leb a b) refl
-  where
-    go : (t : Bool) → leb a b ≡ t → not t ≡ ltb b a
-    go true h = sym (le-ltb b a (leb-true a b h))
-    go false h = sym (lt-ltb b a (leb-false a b h))
 
 either : (a b : Bool) → not (a && b) ≡ not a || not b
 either true b = refl

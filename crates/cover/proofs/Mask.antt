@@ -8,12 +8,9 @@ use native.Mathlib.Omega.{arith}
 use lib.Count.{ones, onesIn, ones-cat}
 use lib.Pow.{pow-mono}
 use Rattle.rules.specs.Turns.{bit, howMany}
+use Rattle.rules.proofs.Choices.{bit-le}
 use Rattle.cover.specs.Mask.{maskOf, after, moved}
 use Rattle.cover.specs.declared.Values.{Values}
-
-pub bit-le : (b : Bool) → bit b ≤ 1
-bit-le true = omega arith
-bit-le false = omega arith
 
 pub bit-zero : (b : Bool) → bit b ≡ 0 → b ≡ false
 bit-zero true h = absurd (omega arith)

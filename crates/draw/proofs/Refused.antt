@@ -14,6 +14,7 @@ use Rattle.rules.specs.Sizes.{width, height, sound}
 use Rattle.rules.specs.Numbers.{tooLong, clearNumber, triangleNumber, verticesInRange, triangleTooLarge}
 use Rattle.rules.specs.Triangles.{coveredPixels, writtenPixels, drawn}
 use Rattle.rules.specs.Calls.{Draws, accepted}
+use Rattle.rules.proofs.Choices.{accepted-no, accepted-yes}
 use Rattle.draw.specs.declared.Counts.{Counts}
 use Rattle.draw.specs.Rows.{FrameAsked, FrameDone}
 
@@ -49,12 +50,6 @@ module _ (n : ℕ) (s : Screen) (t : Triangle) where
       go false false c p q e = absurd (omega arith)
       go false true false p q e = absurd (omega arith)
       go false true true p q e = record { is-sound = p; in-range = q }
-
-accepted-no : {A : Type 0} (n : ℕ) (done kept : A) → n ≢ 0 → accepted n done kept ≡ kept
-accepted-no n done kept h = rw (ne-eqb n 0 h)
-
-accepted-yes : {A : Type 0} (n : ℕ) (done kept : A) → n ≡ 0 → accepted n done kept ≡ done
-accepted-yes n done kept h = rw (eq-eqb n 0 h)
 
 module _ (m : List ℕ) (s : Screen) (t : Triangle) where
   abbrev N : ℕ

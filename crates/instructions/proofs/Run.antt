@@ -8,6 +8,7 @@ use native.Mathlib.Nat.{zero-add, suc-add}
 use native.Mathlib.Omega.{arith}
 use lib.Dec.{eqb}
 use Rattle.rules.specs.Turns.{bit, choose}
+use Rattle.rules.proofs.Choices.{bit-le}
 use Rattle.instructions.specs.Halts.{wordAt}
 use Rattle.instructions.specs.Step.{Machine, withState, withHalt, performed, isHalted, nextHalt, step}
 use Rattle.instructions.specs.Run.{run, isCounted, steps}
@@ -96,10 +97,6 @@ module _ (program : List ℕ) where
   steps-le (suc n) m =
       let h : steps program n (step program m) ≤ n = steps-le n (step program m) in
       omega (arith, bit-le (isCounted program m))
-    where
-      bit-le : (b : Bool) → bit b ≤ 1
-      bit-le true = omega arith
-      bit-le false = omega arith
 
   pub uncounted-stops : (m : Machine) → isCounted program m ≡ false → isHalted (step program m) ≡ true
   unfolding step isCounted withHalt

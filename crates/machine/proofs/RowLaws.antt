@@ -8,6 +8,7 @@ use native.Mathlib.Omega.{arith}
 use lib.Dec.{leb, ltb, eqb}
 use borrow.Author.Tests.{ltb-true, ltb-false, lt-leb, le-leb, lt-ltb, le-ltb, eqb-true, eqb-false, ne-eqb}
 use Rattle.rules.specs.Turns.{choose}
+use Rattle.rules.proofs.Choices.{not-leb}
 use Rattle.instructions.specs.declared.State.{State}
 use Rattle.instructions.specs.Opcodes.{LD, ST, ASRI, JMP, JGEL, DOT, READ, WRITE, SCRSET, CLS, TREESET, TREEIN, TREEVAL, TREEPUT}
 use Rattle.instructions.specs.Words.{opcode, imm, inR1, inR2, inR3, address}
@@ -21,13 +22,6 @@ use Rattle.instructions.specs.Run.{freshState}
 use Rattle.instructions.proofs.Picks.{none-and}
 use Rattle.instructions.proofs.Halts.{NoHalt, word-goes-on, LD-in-data, ST-in-data, DOT-in-data, move-in-data, move-in-ram}
 use Rattle.machine.specs.Steps.{memoryHalt, InData, MovesFit}
-
-pub not-leb : (a b : ℕ) → not (leb a b) ≡ ltb b a
-not-leb a b = go (ltb b a) refl
-  where
-    go : (t : Bool) → ltb b a ≡ t → not (leb a b) ≡ t
-    go true e = ap not (lt-leb a b (ltb-true b a e))
-    go false e = ap not (le-leb a b (ltb-false b a e))
 
 or-false : (b : Bool) → (b || false) ≡ b
 or-false true = refl

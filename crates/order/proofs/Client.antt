@@ -17,12 +17,10 @@ use Rattle.rules.specs.Sizes.{width, height, colourAt, sound, half}
 use Rattle.rules.specs.Triangles.{written, triangleColour, triangleDepth, drawn}
 use Rattle.rules.specs.Numbers.{tooLong, clearNumber, triangleNumber}
 use Rattle.rules.specs.Calls.{Clears, Draws, accepted, cleared}
+use Rattle.rules.proofs.Choices.{accepted-no}
 use Rattle.order.specs.Pointwise.{Painted}
 use Rattle.order.proofs.Order.{accepted-sound, accepted-drawn}
 use Rattle.order.proofs.Pointwise.{drawn-pointwise, cleared-pointwise, painted-colour}
-
-kept-when : {A : Type 0} (n : ℕ) (done kept : A) → n ≢ 0 → accepted n done kept ≡ kept
-kept-when n done kept h = rw (ne-eqb n 0 h)
 
 clear-sound : (n : ℕ) (s : Screen) → clearNumber n s ≡ 0 → sound n s ≡ true
 unfolding clearNumber
@@ -35,7 +33,7 @@ clear-sound n s e = go (tooLong n) (sound n s) e
 
 module _ {m after : List ℕ} {s : Screen} {t : Triangle} {r : Drawn} (d : Draws m s t r after) where
   pub draw-refused : r .number ≢ 0 → after ≡ m
-  draw-refused h = d .leaves ∙ kept-when (triangleNumber (length m) s t) (drawn t s m) m (λ e. h (d .answers ∙ e))
+  draw-refused h = d .leaves ∙ accepted-no (triangleNumber (length m) s t) (drawn t s m) m (λ e. h (d .answers ∙ e))
 
   pub draw-paints : r .number ≡ 0 → Painted s (written t s m) (triangleColour t) (triangleDepth t) m after
   draw-paints e =
@@ -50,7 +48,7 @@ module _ {m after : List ℕ} {s : Screen} {t : Triangle} {r : Drawn} (d : Draws
 
 module _ {m after : List ℕ} {s : Screen} {colour depth n : ℕ} (d : Clears m s colour depth n after) where
   pub clear-refused : n ≢ 0 → after ≡ m
-  clear-refused h = d .leaves ∙ kept-when (clearNumber (length m) s) (cleared s colour depth m) m (λ e. h (d .answers ∙ e))
+  clear-refused h = d .leaves ∙ accepted-no (clearNumber (length m) s) (cleared s colour depth m) m (λ e. h (d .answers ∙ e))
 
   pub clear-paints : n ≡ 0 → Painted s (λ x y. true) (λ x y. colour) (λ x y. depth) m after
   clear-paints e =

@@ -1,3 +1,4 @@
+pub mod Choices
 pub mod Turns
 pub mod Halves
 pub mod Places

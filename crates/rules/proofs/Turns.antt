@@ -8,6 +8,7 @@ use native.Mathlib.Omega.{arith}
 use lib.Dec.{leb}
 use borrow.Author.Tests.{leb-true, leb-false}
 use Rattle.rules.specs.Turns.{upto, bit, howMany, pixels}
+use Rattle.rules.proofs.Choices.{bit-le}
 
 up : {i n : ℕ} → i < n → i < suc n
 up l = omega arith
@@ -71,10 +72,6 @@ module _ (t : ℕ → Bool) where
   unfolding howMany
   howMany-le zero = omega arith
   howMany-le (suc n) = let h : howMany t n ≤ n = howMany-le n in omega (arith, bit-le (t n))
-    where
-      bit-le : (b : Bool) → bit b ≤ 1
-      bit-le true = omega arith
-      bit-le false = omega arith
 
   pub howMany-mono : (m n : ℕ) → m ≤ n → howMany t m ≤ howMany t n
   howMany-mono m n l =

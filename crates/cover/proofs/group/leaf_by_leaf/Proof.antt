@@ -5,7 +5,8 @@ use native.Mathlib.Omega.{arith}
 use Rattle.rules.specs.Turns.{bit}
 use Rattle.cover.specs.declared.Values.{Values}
 use Rattle.cover.specs.Mask.{maskOf, after, moved, keptAfter, allKept}
-use Rattle.cover.proofs.Mask.{bit-le, mask-more, mask-none, mask-small, after-more, after-none}
+use Rattle.rules.proofs.Choices.{bit-le}
+use Rattle.cover.proofs.Mask.{mask-more, mask-none, mask-small, after-more, after-none}
 use Rattle.cover.proofs.group.leaf_by_leaf.Statement.{statement}
 use Rattle.cover.proofs.group.leaf_by_leaf.Tie as tie
 
