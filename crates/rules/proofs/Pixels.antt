@@ -1,8 +1,8 @@
 -- A pixel's two half-words as one cell: what stands in it, which byte of the RAM belongs to which pixel, and what writing a pixel leaves.
 -- Where the half-words stand is known by the laws of Places alone.
 use Prim.Native.Nat.{ℕ, zero, suc, _+_, _*_, _/_, _%_, _<_}
-use mathlib.Core.Path.{_≡_, refl, sym, _∙_, ap, subst}
-use mathlib.Core.Logic.{_≢_, _⊎_, inl, inr}
+use mathlib.Core.Path.{_≡_, sym, _∙_, ap, subst}
+use mathlib.Core.Logic.{_⊎_, inl, inr}
 use mathlib.Core.List.{List}
 use native.Mathlib.Omega.{arith}
 use native.Mathlib.Nat.{mul-comm, zero-mul, eq-zero-or-pos, mod-lt, div-lt-iff-lt-mul}

@@ -1,5 +1,4 @@
 -- `clear::fill_areas`: the two fills are the clear. Assumes nothing.
-use mathlib.Core.Path.{_∙_, ap}
 use native.Mathlib.Omega.{arith}
 use lib.ListN.{length}
 use borrow.Author.Needs.{needs}
