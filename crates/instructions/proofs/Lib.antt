@@ -9,3 +9,4 @@ pub mod Run
 pub mod Trees
 pub mod Unique
 pub mod Meaning
+pub mod Moved

@@ -1,0 +1,123 @@
+-- READ and WRITE, word by word and byte by byte, with no order of work in it: the sixteen words are copied, and all else stays.
+use Prim.Native.Nat.{ℕ, zero, suc, _+_, _-_, _*_, _/_, _%_, _≤_, _<_}
+use mathlib.Core.Path.{_≡_, refl, sym, _∙_, ap, ap₂}
+use mathlib.Core.Logic.{_≢_, _⊎_, inl, inr, ⊎-elim}
+use mathlib.Core.Bool.{Bool, true, false}
+use mathlib.Core.List.{List}
+use native.Mathlib.Omega.{arith}
+use native.Mathlib.Decide.{decLt}
+use lib.ListN.{length, getD, set, length-set}
+use lib.Seq.{getD-set-same, getD-set-other}
+use Rattle.rules.specs.Turns.{upto}
+use Rattle.rules.specs.Sizes.{half, putHalf}
+use Rattle.rules.proofs.Halves.{length-putHalf, half-put-same, half-put-other, byte-put-other}
+use Rattle.instructions.specs.Moves.{word, putWord, wordRead, wordsRead, wordWritten, wordsWritten}
+
+-- the last of n + 1 turns, or one before it
+last : (i n : ℕ) → i < suc n → (i < n) ⊎ (i ≡ n)
+last i n l = go (decLt i n)
+  where
+    go : Dec (i < n) → (i < n) ⊎ (i ≡ n)
+    go (yes b) = inl b
+    go (no d) = inr (omega (arith, d))
+
+-- the first n words of a READ
+pub record Copied (ram : List ℕ) (to from n : ℕ) (memory after : List ℕ) : Type 0 where
+  pub same-length : length after ≡ length memory
+  pub words : (i : ℕ) → i < n → getD after (to + i) 0 ≡ word ram (from + 4 * i)
+  pub others : (k : ℕ) → (k < to) ⊎ (to + n ≤ k) → getD after k 0 ≡ getD memory k 0
+
+module _ (ram : List ℕ) (to from : ℕ) (memory : List ℕ) where
+  copied : (n : ℕ) → to + n ≤ length memory → Copied ram to from n memory (upto (wordRead ram to from) n memory)
+  unfolding upto wordRead
+  copied zero h = record { same-length = refl; words = λ i l. absurd (omega arith); others = λ k o. refl }
+  copied (suc n) h =
+      let m = upto (wordRead ram to from) n memory in
+      let v = word ram (from + 4 * n) in
+      let c : Copied ram to from n memory m = copied n (omega arith) in
+      record {
+        same-length = length-set m (to + n) v ∙ c .same-length;
+        words = λ i l.
+            ⊎-elim
+            (λ (b : i < n). getD-set-other m (to + n) (to + i) v 0 (λ e. omega arith) ∙ c .words i b)
+            (λ (e : i ≡ n). rw e (getD-set-same m (to + n) v 0 (omega (arith, c .same-length))))
+            (last i n l);
+        others = λ k o.
+            getD-set-other m (to + n) k v 0 (λ e. ⊎-elim (λ (a : k < to). omega arith) (λ (a : to + suc n ≤ k). omega arith) o)
+            ∙ c .others k (⊎-elim (λ (a : k < to). inl a) (λ (a : to + suc n ≤ k). inr (omega arith)) o);
+      }
+
+  -- READ
+  pub read-pointwise : to + 16 ≤ length memory → Copied ram to from 16 memory (wordsRead ram to from memory)
+  unfolding wordsRead
+  read-pointwise h = copied 16 h
+
+-- a word in RAM: what is stored is read back, and words with no byte in common are independent
+module _ (m : List ℕ) (a v : ℕ) where
+  length-putWord : length (putWord m a v) ≡ length m
+  unfolding putWord
+  length-putWord = length-putHalf (putHalf m a (v / 65536)) (a + 2) (v % 65536) ∙ length-putHalf m a (v / 65536)
+
+  word-put-same : a + 3 < length m → word (putWord m a v) a ≡ v
+  unfolding word putWord
+  word-put-same h =
+      let n = putHalf m a (v / 65536) in
+      let k : length n ≡ length m = length-putHalf m a (v / 65536) in
+      ap₂ (λ (x y : ℕ). x * 65536 + y)
+      (half-put-other n (a + 2) (v % 65536) a (inr (omega arith)) ∙ half-put-same m a (v / 65536) (omega arith))
+      (half-put-same n (a + 2) (v % 65536) (omega (arith, k)))
+      ∙ omega arith
+
+  word-put-other : (b : ℕ) → (a + 3 < b) ⊎ (b + 3 < a) → word (putWord m a v) b ≡ word m b
+  unfolding word putWord
+  word-put-other b o =
+      let n = putHalf m a (v / 65536) in
+      ap₂ (λ (x y : ℕ). x * 65536 + y)
+      (half-put-other n (a + 2) (v % 65536) b (near (a + 2) b (omega arith)) ∙ half-put-other m a (v / 65536) b (near a b (omega arith)))
+      (half-put-other n (a + 2) (v % 65536) (b + 2) (near (a + 2) (b + 2) (omega arith))
+      ∙ half-put-other m a (v / 65536) (b + 2) (near a (b + 2) (omega arith)))
+    where
+      near : (x y : ℕ) → (a ≤ x) × (x ≤ a + 2) × (b ≤ y) × (y ≤ b + 2) → (x + 1 < y) ⊎ (y + 1 < x)
+      near x y h = ⊎-elim (λ (l : a + 3 < b). inl (omega arith)) (λ (l : b + 3 < a). inr (omega arith)) o
+
+  byte-put-far : (b : ℕ) → (b < a) ⊎ (a + 4 ≤ b) → getD (putWord m a v) b 0 ≡ getD m b 0
+  unfolding putWord
+  byte-put-far b (inl h) =
+      byte-put-other (putHalf m a (v / 65536)) (a + 2) (v % 65536) b (λ e. omega arith) (λ e. omega arith)
+      ∙ byte-put-other m a (v / 65536) b (λ e. omega arith) (λ e. omega arith)
+  byte-put-far b (inr h) =
+      byte-put-other (putHalf m a (v / 65536)) (a + 2) (v % 65536) b (λ e. omega arith) (λ e. omega arith)
+      ∙ byte-put-other m a (v / 65536) b (λ e. omega arith) (λ e. omega arith)
+
+-- the first n words of a WRITE
+pub record Stored (memory : List ℕ) (from to n : ℕ) (ram after : List ℕ) : Type 0 where
+  pub same-length : length after ≡ length ram
+  pub words : (i : ℕ) → i < n → word after (to + 4 * i) ≡ getD memory (from + i) 0
+  pub others : (b : ℕ) → (b < to) ⊎ (to + 4 * n ≤ b) → getD after b 0 ≡ getD ram b 0
+
+module _ (memory : List ℕ) (from to : ℕ) (ram : List ℕ) where
+  stored : (n : ℕ) → to + 4 * n ≤ length ram → Stored memory from to n ram (upto (wordWritten memory from to) n ram)
+  unfolding upto wordWritten
+  stored zero h = record { same-length = refl; words = λ i l. absurd (omega arith); others = λ b o. refl }
+  stored (suc n) h =
+      let m = upto (wordWritten memory from to) n ram in
+      let v = getD memory (from + n) 0 in
+      let c : Stored memory from to n ram m = stored n (omega arith) in
+      record {
+        same-length = length-putWord m (to + 4 * n) v ∙ c .same-length;
+        words = λ i l.
+            ⊎-elim
+            (λ (b : i < n). word-put-other m (to + 4 * n) v (to + 4 * i) (inr (omega arith)) ∙ c .words i b)
+            (λ (e : i ≡ n). rw e (word-put-same m (to + 4 * n) v (omega (arith, c .same-length))))
+            (last i n l);
+        others = λ b o.
+            ⊎-elim
+            (λ (a : b < to). byte-put-far m (to + 4 * n) v b (inl (omega arith)) ∙ c .others b (inl a))
+            (λ (a : to + 4 * suc n ≤ b). byte-put-far m (to + 4 * n) v b (inr (omega arith)) ∙ c .others b (inr (omega arith)))
+            o;
+      }
+
+  -- WRITE
+  pub write-pointwise : to + 64 ≤ length ram → Stored memory from to 16 ram (wordsWritten memory from to ram)
+  unfolding wordsWritten
+  write-pointwise h = stored 16 h
