@@ -3,8 +3,8 @@
 //!
 //! A thin layer over the proved library `libmerikohin.a` (its C interface is
 //! `include/merikohin.h`). Memory is lent to a call as a slice; every call
-//! answers a number, and nothing is asked of the caller: every value of every
-//! argument is allowed.
+//! answers a number (but `fresh`, which answers a state), and nothing is asked of
+//! the caller: every value of every argument is allowed.
 //!
 //! | Number | Given exactly when |
 //! |---|---|
