@@ -1,7 +1,1 @@
-pub mod Zeroed
-pub mod RowLaws
-pub mod ResultLaws
-pub mod TreeVals
-pub mod Joined
-pub mod Invariant
 pub mod Numbered

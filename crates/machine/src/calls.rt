@@ -1,13 +1,13 @@
 // The machine's calls: a fresh state, whether a state is ill-formed, and a run.
-use crate::parts::cpu_of;
-use crate::parts::state_of;
-use crate::parts::view_of;
-use crate::running::run;
 use instructions::State;
 use instructions::Tree;
 use rules::Screen;
 use screen::sizes::sound;
 use screen::sizes::too_long;
+use steps::parts::cpu_of;
+use steps::parts::state_of;
+use steps::parts::view_of;
+use steps::running::run;
 use tree::refuses;
 ghost use mathlib.Core.Path.{_≡_};
 ghost use Rattle.instructions.specs.Step.{together};

@@ -1,12 +1,2 @@
-// The machine: a state by value, and runs of it over a lent program, data memory and RAM. A run holds the state in parts: the registers lent,
-// a small struct that each step passes on, and what only the drawing instructions touch.
+// The machine: a state by value, and runs of it over a lent program, data memory and RAM.
 pub mod calls;
-pub mod data;
-pub mod drawing;
-pub mod halts;
-pub mod jumping;
-pub mod opcodes;
-pub mod parts;
-pub mod plain;
-pub mod registers;
-pub mod running;

@@ -3,11 +3,11 @@ use mathlib.Core.Path.{_≡_, sym, _∙_, ap, ap₂, subst}
 use denote.Ref.{now}
 use Rattle.instructions.specs.declared.State.{State}
 use Rattle.instructions.specs.Step.{Machine}
-use Rattle.machine.specs.declared.parts.Cpu.{Cpu}
-use Rattle.machine.specs.declared.parts.View.{View}
+use Rattle.steps.specs.declared.parts.Cpu.{Cpu}
+use Rattle.steps.specs.declared.parts.View.{View}
 use Rattle.instructions.specs.Step.{together}
-use Rattle.machine.specs.Parts.{machine}
-use Rattle.machine.specs.Runs.{Ready}
+use Rattle.steps.specs.Parts.{machine}
+use Rattle.steps.specs.Runs.{Ready}
 use Rattle.machine.proofs.Numbered.{accepted-ready, runs-refused, runs-done}
 use borrow.Author.Needs.{needs}
 use Rattle.machine.proofs.calls.run_machine.Statement.{statement}

@@ -1,0 +1,62 @@
+// The run: each step in turn, to the budget or to a halt.
+use crate::drawing::draw_step;
+use crate::opcodes::WRITE;
+use crate::parts::Cpu;
+use crate::parts::View;
+use crate::parts::stopped;
+use crate::plain::plain_step;
+use alu::fields::opcode;
+ghost use Rattle.steps.specs.Parts.{machine};
+ghost use Rattle.steps.specs.Runs.{Ends, Ready};
+
+// What a run leaves of the parts by value, and the steps carried out.
+pub struct Ended {
+    pub cpu: Cpu,
+    pub view: View,
+    pub steps: u64,
+}
+
+// A halting step ends the run, and is not counted. The two kinds of step end apart, so that one up to WRITE copies no tree.
+pub fn run(
+    program: &[u32],
+    regs: &mut [u32; 32],
+    memory: &mut [u32],
+    ram: &mut [u8],
+    first: Cpu,
+    given: View,
+    budget: u64,
+) -> Ended
+    requires { ⌜ Ready (now program) (machine (now regs) first given (now memory) (now ram)) ⌝ }
+    ensures { λ r. ⌜ Ends (now (program .entry)) budget (machine (now (regs .entry)) first given (now (memory .entry)) (now (ram .entry))) (r .steps) (machine (now (regs .exit)) (r .cpu) (r .view) (now (memory .exit)) (now (ram .exit))) ⌝ }
+{
+    let mut cpu = first;
+    let mut view = given;
+    let mut steps: u64 = 0;
+    if cpu.halt != 0 {
+        return Ended { cpu, view, steps };
+    }
+    while steps < budget {
+        let place = cpu.place as usize;
+        if program.len() <= place {
+            cpu = stopped(cpu, 12);
+            return Ended { cpu, view, steps };
+        }
+        let w = program[place];
+        if opcode(w) <= WRITE {
+            cpu = plain_step(w, regs, memory, ram, cpu);
+            if cpu.halt != 0 {
+                return Ended { cpu, view, steps };
+            }
+            steps += 1;
+        } else {
+            let turn = draw_step(w, regs, cpu, view, ram);
+            cpu = turn.cpu;
+            view = turn.view;
+            if cpu.halt != 0 {
+                return Ended { cpu, view, steps };
+            }
+            steps += 1;
+        }
+    }
+    Ended { cpu, view, steps }
+}
