@@ -1,0 +1,24 @@
+/* The engine's calls with every struct by its address, so that they are the
+ * same whichever machine's rules for structs a compiler goes by. */
+#ifndef NATIVE_H
+#define NATIVE_H
+
+#include <stddef.h>
+#include <stdint.h>
+
+struct native_run {
+    const uint32_t *program;
+    size_t program_len;
+    uint32_t *memory;
+    size_t memory_len;
+    uint8_t *ram;
+    size_t ram_len;
+    uint64_t budget;
+};
+
+void native_clear(uint8_t *ram, size_t ram_len, const void *screen, uint32_t colour, uint32_t depth, uint32_t *number);
+void native_draw(uint8_t *ram, size_t ram_len, const void *screen, const void *triangle, void *drawn);
+void native_fresh(void *state);
+void native_run(const struct native_run *run, const void *state, void *ran);
+
+#endif

@@ -1,0 +1,34 @@
+/* Compiled by the rules for structs of x86-64, as the engine's module is. The
+ * module takes the address of a large answer as its first argument. */
+#define merikohin_fresh declared_fresh
+#define merikohin_run declared_run
+#include "merikohin.h"
+#undef merikohin_fresh
+#undef merikohin_run
+#include "native.h"
+
+void *merikohin_fresh(merikohin_state *answer);
+void *merikohin_run(merikohin_ran *answer, const uint32_t *program, size_t program_len, uint32_t *memory, size_t memory_len,
+                    uint8_t *ram, size_t ram_len, merikohin_state state, uint64_t budget);
+
+void native_clear(uint8_t *ram, size_t ram_len, const void *screen, uint32_t colour, uint32_t depth, uint32_t *number)
+{
+    *number = merikohin_clear(ram, ram_len, *(const merikohin_screen *)screen, (uint16_t)colour, (uint16_t)depth);
+}
+
+void native_draw(uint8_t *ram, size_t ram_len, const void *screen, const void *triangle, void *drawn)
+{
+    *(merikohin_drawn *)drawn =
+        merikohin_draw(ram, ram_len, *(const merikohin_screen *)screen, *(const merikohin_triangle *)triangle);
+}
+
+void native_fresh(void *state)
+{
+    merikohin_fresh(state);
+}
+
+void native_run(const struct native_run *run, const void *state, void *ran)
+{
+    merikohin_run(ran, run->program, run->program_len, run->memory, run->memory_len, run->ram, run->ram_len,
+                  *(const merikohin_state *)state, run->budget);
+}
