@@ -4,7 +4,7 @@ use Prim.Native.Nat.{ℕ, zero, suc, _+_, _*_, _-_, _%_, _≤_, _<_}
 use mathlib.Core.Path.{_≡_, refl, sym, _∙_, ap}
 use mathlib.Core.List.{List, [], _∷_}
 use mathlib.Core.Bool.{Bool, true, false, _&&_, _||_}
-use native.Mathlib.Nat.{mul-add, add-zero}
+use native.Mathlib.Nat.{mul-add, mul-one}
 use native.Mathlib.Omega.{arith}
 use lib.IntN.{ℤ, pos, negsuc, _+ℤ_, _-ℤ_, _*ℤ_}
 use lib.Signed.{mag, nonNeg, leZ, _≤ℤ_, _<ℤ_}
@@ -13,16 +13,17 @@ use mir.Val.{toZ, ofZ}
 use mir.ValLaws.{toZ-ofZ}
 use borrow.Author.Tests.{lt-ltb, le-ltb}
 use Rattle.ints.specs.Modulo.{mod32}
-use Rattle.ints.proofs.Modulo.{mod32-sign, mod32-affine}
+use Rattle.ints.proofs.Modulo.{mod32-sign, mod32-affine, mod32-middle}
 use Rattle.ints.proofs.Poly.{Exp, var, con, _⊕_, _⊖_, _⊗_, solve}
 use Rattle.ints.proofs.Order.{leZ-true, nonNeg-true, nonNeg-false, le-nonNeg, lt-nonNeg, ≤ℤ-trans, ≤ℤ-<ℤ-trans, le-of, le-to, lt-to, mul-nonneg, pos-le}
-use Rattle.ints.proofs.Bounds.{Within, within-pos, within-range, within-lit, within-sub, within-mul, within-31, fits-32}
+use Rattle.ints.proofs.Bounds.{Within, within-pos, within-range, within-lit, within-sub, within-mul, within-mag, within-31, fits-32}
 use Rattle.rules.specs.Turns.{choose}
 use Rattle.rules.specs.Triangles.{Edge, dx, edge1, edge2, edge3, edgeValue, sampleOffset, sample, keepsZero, inside, positive, isZero}
 use Rattle.rules.specs.Numbers.{vertexInRange, verticesInRange}
 use Rattle.rules.specs.declared.Triangle.{Triangle}
-use Rattle.cover.specs.Side.{sided, slope, sideAt, reachOf, fallOf, sideFrom, SideOf, edgeFrom, edgeInRange}
+use Rattle.cover.specs.Side.{sided, slope, sideAt, bestLeaf, worstLeaf, sideFrom, SideOf, edgeFrom, edgeInRange}
 use Rattle.cover.specs.Mask.{keeps}
+use Rattle.cover.specs.Pairs.{raised}
 use Rattle.cover.specs.declared.Side.{Side}
 
 -- ---- inside is "not negative"
@@ -99,21 +100,29 @@ loss-within false = within-lit tt
 
 module _ (e : Edge) (w : EdgeWithin e) where
   -- wherever in its pixel the sample point lies
-  pub value-within : (x y : ℕ) → x ≤ 640 → y ≤ 512 → Within 419659776 (edgeValue e (sample x y))
+  pub value-within : (x y : ℕ) → x ≤ 656 → y ≤ 512 → Within 421756928 (edgeValue e (sample x y))
   unfolding edgeValue sample
   value-within x y hx hy =
       within-sub
       (within-mul (within-sub (within-pos {n = 4103} (omega arith)) (w .in-y1)) (within-sub (w .in-x2) (w .in-x1)))
-      (within-mul (within-sub (within-pos {n = 5127} (omega arith)) (w .in-x1)) (within-sub (w .in-y2) (w .in-y1)))
+      (within-mul (within-sub (within-pos {n = 5255} (omega arith)) (w .in-x1)) (within-sub (w .in-y2) (w .in-y1)))
 
-  pub sided-small : (x y : ℕ) → x ≤ 640 → y ≤ 512 → mag (sided e x y) < 2147483648
+  sided-near : (x y : ℕ) → x ≤ 656 → y ≤ 512 → mag (sided e x y) < 536870912
   unfolding sided
-  sided-small x y hx hy =
-      within-31 (within-sub (value-within x y hx hy) (loss-within (keepsZero e))) (omega arith)
+  sided-near x y hx hy =
+      within-mag (within-sub (value-within x y hx hy) (loss-within (keepsZero e))) (omega arith)
+
+  pub sided-small : (x y : ℕ) → x ≤ 656 → y ≤ 512 → mag (sided e x y) < 2147483648
+  sided-small x y hx hy = omega (arith, sided-near x y hx hy)
 
   pub slope-small : mag (slope e) < 2147483648
   slope-small =
       within-31 (within-sub (within-lit {n = 0} {z = pos 0} tt) (within-mul (within-lit {n = 8} {z = pos 8} tt) (within-sub (w .in-y2) (w .in-y1)))) (omega arith)
+
+-- a word that is near the middle of 32 bits when it is raised
+pub record Middle (n : ℕ) : Type 0 where
+  pub least : 1610612736 ≤ raised n
+  pub most : raised n ≤ 2684354560
 
 -- ---- rising and falling
 
@@ -143,27 +152,38 @@ side-of e c a b hc ha hb =
           rw (hc, ha, hb)
           (sym (mod32-affine (sided e 0 0) (slope e) (pos 8 *ℤ dx e) x y) ∙ ap mod32 (sym (sided-affine e x y)));
       right = ha;
+      below = hb;
       reaches = refl;
       falls = refl;
       leaps = refl;
-      bests = refl;
-      strides = refl;
+      downs = refl;
+      spreads = refl;
+      boths = refl;
     }
+
+pub step-down : (d : Side) (x y : ℕ) → (sideAt d x y + d .b) % 4294967296 ≡ sideAt d x (y + 1)
+step-down d x y = omega (arith, mul-add (d .b) y 1, mul-one (d .b))
 
 pub step-right : (d : Side) (x k y : ℕ) → (sideAt d x y + d .a * k % 4294967296) % 4294967296 ≡ sideAt d (x + k) y
 step-right d x k y = omega (arith, mul-add (d .a) x k)
 
 module _ (e : Edge) (d : Side) (w : EdgeWithin e) (o : SideOf e d) where
   -- the sign of the value is the pixel's side
-  pub keeps-inside : (x y : ℕ) → x ≤ 640 → y ≤ 512 → keeps (sideAt d x y) ≡ inside e (sample x y)
+  pub keeps-inside : (x y : ℕ) → x ≤ 656 → y ≤ 512 → keeps (sideAt d x y) ≡ inside e (sample x y)
   keeps-inside x y hx hy =
       ap keeps (o .here x y) ∙ mod32-sign (sided e x y) (sided-small e w x y hx hy) ∙ sym (inside-sided e x y)
 
   pub keeps-slope : keeps (d .a) ≡ nonNeg (slope e)
   keeps-slope = ap keeps (o .right) ∙ mod32-sign (slope e) (slope-small e w)
 
-  keeps-sided : (x y : ℕ) → x ≤ 640 → y ≤ 512 → keeps (sideAt d x y) ≡ nonNeg (sided e x y)
+  keeps-sided : (x y : ℕ) → x ≤ 656 → y ≤ 512 → keeps (sideAt d x y) ≡ nonNeg (sided e x y)
   keeps-sided x y hx hy = keeps-inside x y hx hy ∙ inside-sided e x y
+
+  -- raised by 2^31, it is near the middle of 32 bits
+  pub side-middle : (x y : ℕ) → x ≤ 656 → y ≤ 512 → Middle (sideAt d x y)
+  side-middle x y hx hy =
+      let m = mod32-middle (sided e x y) (sided-near e w x y hx hy) in
+      rw (o .here x y) (record { least = m .0; most = m .1 })
 
   outside : (x k y : ℕ) → sided e (x + k) y <ℤ pos 0 → inside e (sample (x + k) y) ≡ false
   outside x k y h = inside-sided e (x + k) y ∙ lt-nonNeg (sided e (x + k) y) h
@@ -171,47 +191,47 @@ module _ (e : Edge) (d : Side) (w : EdgeWithin e) (o : SideOf e d) where
   within : (x k y : ℕ) → pos 0 ≤ℤ sided e (x + k) y → inside e (sample (x + k) y) ≡ true
   within x k y h = inside-sided e (x + k) y ∙ le-nonNeg (sided e (x + k) y) h
 
-  -- n leaves on the right of pixel (x, y)
-  module _ (n x y : ℕ) where
-    top : (b : Bool) → keeps (d .a) ≡ b → (sideAt d x y + reachOf n (d .a)) % 4294967296 ≡ sideAt d (x + choose b n 0) y
-    top true h = rw h (step-right d x n y)
-    top false h = rw h (omega (arith, add-zero x))
+  -- the group that starts at pixel (x, y)
+  module _ (x y : ℕ) (hx : x + 15 ≤ 656) (hy : y ≤ 512) where
+    best : (b : Bool) → keeps (d .a) ≡ b → keeps (sideAt d (x + bestLeaf (d .a)) y) ≡ nonNeg (sided e (x + choose b 15 0) y)
+    best true s = rw s (keeps-sided (x + 15) y hx hy)
+    best false s = rw s (keeps-sided (x + 0) y (omega arith) hy)
 
-    low : (b : Bool) → keeps (d .a) ≡ b → (sideAt d x y + fallOf n (d .a)) % 4294967296 ≡ sideAt d (x + choose b 0 n) y
-    low true h = rw h (omega (arith, add-zero x))
-    low false h = rw h (step-right d x n y)
+    worst : (b : Bool) → keeps (d .a) ≡ b → keeps (sideAt d (x + worstLeaf (d .a)) y) ≡ nonNeg (sided e (x + choose b 0 15) y)
+    worst true s = rw s (keeps-sided (x + 0) y (omega arith) hy)
+    worst false s = rw s (keeps-sided (x + 15) y hx hy)
 
-  -- where the edge misses the best one, it misses all
-  pub misses : (n x y : ℕ) → x + n ≤ 640 → y ≤ 512 → keeps ((sideAt d x y + reachOf n (d .a)) % 4294967296) ≡ false
-      → (k : ℕ) → k ≤ n → inside e (sample (x + k) y) ≡ false
-  misses n x y hx hy h k hk = go (keeps (d .a)) refl
-    where
-      go : (b : Bool) → keeps (d .a) ≡ b → inside e (sample (x + k) y) ≡ false
-      go true s =
-          let z : nonNeg (sided e (x + n) y) ≡ false = sym (keeps-sided (x + n) y hx hy) ∙ sym (ap keeps (top n x y true s)) ∙ h in
-          let r : sided e (x + k) y ≤ℤ sided e (x + k + (n - k)) y = rises e (x + k) (n - k) y (sym keeps-slope ∙ s) in
-          let i : x + k + (n - k) ≡ x + n = omega arith in
-          outside x k y (≤ℤ-<ℤ-trans (rw i at r) (nonNeg-false (sided e (x + n) y) z))
-      go false s =
-          let z : nonNeg (sided e x y) ≡ false =
-          sym (keeps-sided x y (omega arith) hy) ∙ ap (λ (i : ℕ). keeps (sideAt d i y)) (sym (add-zero x)) ∙ sym (ap keeps (top n x y false s)) ∙ h in
-          outside x k y (≤ℤ-<ℤ-trans (falls e x k y (sym keeps-slope ∙ s)) (nonNeg-false (sided e x y) z))
+    -- where the edge misses its best leaf, it misses all
+    pub misses : keeps (sideAt d (x + bestLeaf (d .a)) y) ≡ false → (k : ℕ) → k ≤ 15 → inside e (sample (x + k) y) ≡ false
+    misses h k hk = go (keeps (d .a)) refl
+      where
+        go : (b : Bool) → keeps (d .a) ≡ b → inside e (sample (x + k) y) ≡ false
+        go true s =
+            let z : nonNeg (sided e (x + 15) y) ≡ false = sym (best true s) ∙ h in
+            let r : sided e (x + k) y ≤ℤ sided e (x + k + (15 - k)) y = rises e (x + k) (15 - k) y (sym keeps-slope ∙ s) in
+            let i : x + k + (15 - k) ≡ x + 15 = omega arith in
+            outside x k y (≤ℤ-<ℤ-trans (rw i at r) (nonNeg-false (sided e (x + 15) y) z))
+        go false s =
+            let z : nonNeg (sided e (x + 0) y) ≡ false = sym (best false s) ∙ h in
+            let r : sided e (x + 0 + k) y ≤ℤ sided e (x + 0) y = falls e (x + 0) k y (sym keeps-slope ∙ s) in
+            let i : x + 0 + k ≡ x + k = omega arith in
+            outside x k y (≤ℤ-<ℤ-trans (rw i at r) (nonNeg-false (sided e (x + 0) y) z))
 
-  -- where the worst one is inside the edge, all are
-  pub fills : (n x y : ℕ) → x + n ≤ 640 → y ≤ 512 → keeps ((sideAt d x y + fallOf n (d .a)) % 4294967296) ≡ true
-      → (k : ℕ) → k ≤ n → inside e (sample (x + k) y) ≡ true
-  fills n x y hx hy h k hk = go (keeps (d .a)) refl
-    where
-      go : (b : Bool) → keeps (d .a) ≡ b → inside e (sample (x + k) y) ≡ true
-      go true s =
-          let z : nonNeg (sided e x y) ≡ true =
-          sym (keeps-sided x y (omega arith) hy) ∙ ap (λ (i : ℕ). keeps (sideAt d i y)) (sym (add-zero x)) ∙ sym (ap keeps (low n x y true s)) ∙ h in
-          within x k y (≤ℤ-trans (nonNeg-true (sided e x y) z) (rises e x k y (sym keeps-slope ∙ s)))
-      go false s =
-          let z : nonNeg (sided e (x + n) y) ≡ true = sym (keeps-sided (x + n) y hx hy) ∙ sym (ap keeps (low n x y false s)) ∙ h in
-          let r : sided e (x + k + (n - k)) y ≤ℤ sided e (x + k) y = falls e (x + k) (n - k) y (sym keeps-slope ∙ s) in
-          let i : x + k + (n - k) ≡ x + n = omega arith in
-          within x k y (≤ℤ-trans (nonNeg-true (sided e (x + n) y) z) (rw i at r))
+    -- where its worst leaf is inside the edge, all are
+    pub fills : keeps (sideAt d (x + worstLeaf (d .a)) y) ≡ true → (k : ℕ) → k ≤ 15 → inside e (sample (x + k) y) ≡ true
+    fills h k hk = go (keeps (d .a)) refl
+      where
+        go : (b : Bool) → keeps (d .a) ≡ b → inside e (sample (x + k) y) ≡ true
+        go true s =
+            let z : nonNeg (sided e (x + 0) y) ≡ true = sym (worst true s) ∙ h in
+            let r : sided e (x + 0) y ≤ℤ sided e (x + 0 + k) y = rises e (x + 0) k y (sym keeps-slope ∙ s) in
+            let i : x + 0 + k ≡ x + k = omega arith in
+            within x k y (≤ℤ-trans (nonNeg-true (sided e (x + 0) y) z) (rw i at r))
+        go false s =
+            let z : nonNeg (sided e (x + 15) y) ≡ true = sym (worst false s) ∙ h in
+            let r : sided e (x + k + (15 - k)) y ≤ℤ sided e (x + k) y = falls e (x + k) (15 - k) y (sym keeps-slope ∙ s) in
+            let i : x + k + (15 - k) ≡ x + 15 = omega arith in
+            within x k y (≤ℤ-trans (nonNeg-true (sided e (x + 15) y) z) (rw i at r))
 
 -- ---- the three edges of a triangle whose vertices are in range
 

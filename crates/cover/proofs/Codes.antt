@@ -2,6 +2,7 @@
 use Prim.Native.Nat.{ℕ, _≤_}
 use mathlib.Core.Path.{_≡_, sym, _∙_, ap, subst}
 use mathlib.Core.Bool.{true}
+use native.Mathlib.Omega.{arith}
 use lib.IntN.{ℤ}
 use mir.Syntax.{w32, w64}
 use Rattle.ints.proofs.Bounds.{Within}
@@ -54,7 +55,7 @@ module _ (e : Edge) (w : EdgeWithin e) where
 
 -- an edge's value as `edge_value` answers it
 abbrev pub answeredC : (e : Edge) → EdgeWithin e → (x y : ℕ) → x ≤ 640 → y ≤ 512 → (z : ℤ) → z ≡ edgeValue e (sample x y) → Code w64
-answeredC e w x y hx hy z h = known (got-in {b = 419659776} (subst (Within 419659776) (sym h) (value-within e w x y hx hy)) tt)
+answeredC e w x y hx hy z h = known (got-in {b = 421756928} (subst (Within 421756928) (sym h) (value-within e w x y (omega arith) hy)) tt)
 
 -- of the edge that it reads
 pub answered : (e : Edge) (p : Point) {z : ℤ} → edgeInRange e ≡ true → z ≡ edgeValue (read e) p → z ≡ edgeValue e p

@@ -1,4 +1,4 @@
--- Number 7 is never answered: with vertices in range and at most 640 by 512 pixels an edge value is within 419,659,776.
+-- Number 7 is never answered: with vertices in range and at most 640 by 512 pixels an edge value is within 421,756,928.
 use Prim.Native.Nat.{ℕ, _≤_}
 use mathlib.Core.Path.{_≡_, refl, sym, _∙_, ap}
 use mathlib.Core.Bool.{Bool, true, false, _&&_, _||_, not}
@@ -29,14 +29,14 @@ out-of-range (negsuc n) = rw (either (leb n 2147483647) true, not-leb n 21474836
 
 -- ---- never
 
-small : (z : ℤ) → Within 419659776 z → not (inSigned32 z) ≡ false
+small : (z : ℤ) → Within 421756928 z → not (inSigned32 z) ≡ false
 small (pos n) h = rw (le-leb n 2147483647 (omega (arith, h .within)))
 small (negsuc n) h = rw (le-leb n 2147483647 (omega (arith, h .within)))
 
 module _ (e : Edge) (r : edgeInRange e ≡ true) where
   pub never-too-large : (x y : ℕ) → x ≤ 640 → y ≤ 512 → edgeTooLarge e x y ≡ false
   unfolding edgeTooLarge
-  never-too-large x y hx hy = small (edgeValue e (sample x y)) (value-within e (edge-within e r) x y hx hy)
+  never-too-large x y hx hy = small (edgeValue e (sample x y)) (value-within e (edge-within e r) x y (omega arith) hy)
 
   pub edge-never-too-large : (w h : ℕ) → w ≤ 640 → h ≤ 512 → ltb 0 (pixels (edgeTooLarge e) w h) ≡ false
   edge-never-too-large w h hw hh =

@@ -1,20 +1,24 @@
--- Laws of a group's leaves, or of four of them, from those of one edge: the values step from leaf to leaf, a leaf is inside where all three are
--- kept, and the best and the worst value speak for all leaves.
-use Prim.Native.Nat.{ℕ, zero, suc, _+_, _*_, _%_, _≤_}
-use mathlib.Core.Path.{_≡_, refl, sym, _∙_, ap, ap₂}
+-- Laws of a group's leaves from those of one edge: a leaf is inside where all three values are kept, the best and the worst value speak for all
+-- leaves, and the words with two values step from group to group, from row to row and from leaf to leaf.
+use Prim.Native.Nat.{ℕ, _+_, _*_, _%_, _^_, _≤_, _<_}
+use mathlib.Core.Path.{_≡_, refl, sym, _∙_, ap, ap₂, subst}
 use mathlib.Core.Logic.{_⊎_, inl, inr, ⊎-elim}
 use mathlib.Core.Bool.{Bool, true, false, _&&_}
-use native.Mathlib.Nat.{add-zero, add-suc, mul-one}
+use native.Mathlib.Nat.{mul-add, mul-one}
 use native.Mathlib.Omega.{arith}
+use lib.IntN.{pos, _*ℤ_}
+use Rattle.ints.proofs.Modulo.{mod32-lt}
 use Rattle.rules.specs.declared.Triangle.{Triangle}
-use Rattle.rules.specs.Triangles.{edge1, edge2, edge3, Point, sample, inside, insideAll}
+use Rattle.rules.specs.Turns.{bit, choose}
+use Rattle.rules.specs.Triangles.{Edge, dx, edge1, edge2, edge3, Point, sample, inside, insideAll}
 use Rattle.cover.specs.declared.Side.{Side}
 use Rattle.cover.specs.declared.Sides.{Sides}
 use Rattle.cover.specs.declared.Values.{Values}
-use Rattle.cover.specs.Side.{sideAt, first, second, third, reachOf, fallOf, SidesOf}
-use Rattle.cover.specs.Mask.{keeps, allKept, valuesAt, moved, after, leafInside, LeavesAt, maskOf, keptAfter}
-use Rattle.cover.proofs.Mask.{mask-same}
-use Rattle.cover.proofs.Along.{EdgeWithin, edge-within, edges-in-range, and-true, step-right, keeps-inside, misses, fills}
+use Rattle.cover.specs.Side.{slope, sideAt, bestLeaf, worstLeaf, reachOf, fallOf, stepsOf, first, second, third, SideOf, SidesOf}
+use Rattle.cover.specs.Mask.{keeps, allKept, valuesAt, moved, leafInside}
+use Rattle.cover.specs.Pairs.{pairOf, pairsMoved, pairsKept, eachAt, endsAt, firstAt, SidesAt}
+use Rattle.cover.proofs.Along.{EdgeWithin, Middle, edge-within, edges-in-range, and-true, step-right, step-down, keeps-inside, side-middle, misses, fills}
+use Rattle.cover.proofs.Words.{pair-step, pairs-kept}
 
 -- ---- three tests
 
@@ -48,39 +52,92 @@ module _ (t : Triangle) (p : Point) where
   unfolding insideAll
   out3 h = no-third (inside (edge1 t) p) (inside (edge2 t) p) (inside (edge3 t) p) h
 
--- ---- stepping
+-- ---- one edge's words
 
--- a number for each edge, from its step
-abbrev pub each : (ℕ → ℕ) → Values → Values
-each f a = record { p = f (a .p); q = f (a .q); r = f (a .r) }
+choose-le : (b : Bool) {m n : ℕ} → m ≤ 15 → n ≤ 15 → choose b m n ≤ 15
+choose-le true h k = h
+choose-le false h k = k
 
-abbrev steps : ℕ → ℕ → ℕ
-steps n a = a * n % 4294967296
+worst-le : (a : ℕ) → worstLeaf a ≤ 15
+worst-le a = choose-le (keeps a) (omega arith) (omega arith)
 
--- n steps at once
-moved-far : (d : Sides) (n x y : ℕ) (by : Values) → by ≡ each (steps n) (d .a) → moved (valuesAt d x y) by ≡ valuesAt d (x + n) y
-moved-far d n x y by e =
-    ap (moved (valuesAt d x y)) e
-    ∙ (λ i. record { p = step-right (first d) x n y i; q = step-right (second d) x n y i; r = step-right (third d) x n y i })
+best-le : (a : ℕ) → bestLeaf a ≤ 15
+best-le a = choose-le (keeps a) (omega arith) (omega arith)
 
-one-right : (s : Side) (x y : ℕ) → (sideAt s x y + s .a) % 4294967296 ≡ sideAt s (x + 1) y
-one-right s x y = omega (arith, step-right s x 1 y, mul-one (s .a))
+module _ (e : Edge) (d : Side) (w : EdgeWithin e) (o : SideOf e d) where
+  a-small : d .a < 4294967296
+  a-small = omega (arith, o .right, mod32-lt (slope e))
 
-pub moved-right : (d : Sides) (x y : ℕ) → moved (valuesAt d x y) (d .a) ≡ valuesAt d (x + 1) y
-moved-right d x y =
-    λ i. record { p = one-right (first d) x y i; q = one-right (second d) x y i; r = one-right (third d) x y i }
+  b-small : d .b < 4294967296
+  b-small = omega (arith, o .below, mod32-lt (pos 8 *ℤ dx e))
 
-pub after-at : (d : Sides) (x y k : ℕ) → after (valuesAt d x y) (d .a) k ≡ valuesAt d (x + k) y
-unfolding after
-after-at d x y zero = ap (λ (n : ℕ). valuesAt d n y) (sym (add-zero x))
-after-at d x y (suc k) =
-    ap (λ (v : Values). moved v (d .a)) (after-at d x y k)
-    ∙ moved-right d (x + k) y
-    ∙ ap (λ (n : ℕ). valuesAt d n y) (omega (arith, add-suc x k))
+  -- from pixels (x, y) and (u, y) to (x′, y′) and (u′, y′)
+  moves : (x u x′ u′ y y′ l h : ℕ) → x ≤ 656 → u ≤ 656 → x′ ≤ 656 → u′ ≤ 656 → y ≤ 512 → y′ ≤ 512 → l < 4294967296 → h < 4294967296
+      → (sideAt d x y + l) % 4294967296 ≡ sideAt d x′ y′
+      → (sideAt d u y + h) % 4294967296 ≡ sideAt d u′ y′
+      → (pairOf (sideAt d x y) (sideAt d u y) + stepsOf l h) % 2 ^ 64 ≡ pairOf (sideAt d x′ y′) (sideAt d u′ y′)
+  moves x u x′ u′ y y′ l h hx hu hx′ hu′ hy hy′ hl hh el eh =
+      pair-step (sideAt d x y) (sideAt d u y) l h (omega arith) (omega arith) hl hh
+      (side-middle e d w o x y hx hy) (side-middle e d w o u y hu hy)
+      (subst Middle (sym el) (side-middle e d w o x′ y′ hx′ hy′)) (subst Middle (sym eh) (side-middle e d w o u′ y′ hu′ hy′))
+      ∙ ap₂ pairOf el eh
 
--- ---- a group, or a part of one: n leaves on the right of pixel (x, y)
+  -- the ends of the group that starts at pixel (x, y)
+  abbrev ends : ℕ → ℕ → ℕ
+  ends x y = pairOf (sideAt d (x + worstLeaf (d .a)) y) (sideAt d (x + bestLeaf (d .a)) y)
 
-module _ (n : ℕ) (t : Triangle) (x y : ℕ) (v : Values) (d : Sides) (g : LeavesAt n t x y v d) where
+  abbrev firsts : ℕ → ℕ → ℕ
+  firsts x y = pairOf (sideAt d x y) (sideAt d (x + 8) y)
+
+  module _ (x y : ℕ) where
+    edge-leaped : x + 31 ≤ 656 → y ≤ 512 → (ends x y + d .leap) % 2 ^ 64 ≡ ends (x + 16) y
+    edge-leaped hx hy =
+        let m = worstLeaf (d .a) in
+        let n = bestLeaf (d .a) in
+        let i : x + m + 16 ≡ x + 16 + m = omega arith in
+        let j : x + n + 16 ≡ x + 16 + n = omega arith in
+        ap (λ (k : ℕ). (ends x y + k) % 2 ^ 64) (o .leaps)
+        ∙ moves (x + m) (x + n) (x + m + 16) (x + n + 16) y y (d .a * 16 % 4294967296) (d .a * 16 % 4294967296)
+        (omega (arith, worst-le (d .a))) (omega (arith, best-le (d .a))) (omega (arith, worst-le (d .a))) (omega (arith, best-le (d .a))) hy hy
+        (omega arith) (omega arith) (step-right d (x + m) 16 y) (step-right d (x + n) 16 y)
+        ∙ ap₂ (λ (k l : ℕ). pairOf (sideAt d k y) (sideAt d l y)) i j
+
+    edge-lowered : x + 15 ≤ 656 → y + 1 ≤ 512 → (ends x y + d .down) % 2 ^ 64 ≡ ends x (y + 1)
+    edge-lowered hx hy =
+        let m = worstLeaf (d .a) in
+        let n = bestLeaf (d .a) in
+        ap (λ (k : ℕ). (ends x y + k) % 2 ^ 64) (o .downs)
+        ∙ moves (x + m) (x + n) (x + m) (x + n) y (y + 1) (d .b) (d .b)
+        (omega (arith, worst-le (d .a))) (omega (arith, best-le (d .a))) (omega (arith, worst-le (d .a))) (omega (arith, best-le (d .a))) (omega arith) hy
+        b-small b-small (step-down d (x + m) y) (step-down d (x + n) y)
+
+    edge-spread : x + 15 ≤ 656 → y ≤ 512 → (ends x y + d .spread) % 2 ^ 64 ≡ firsts x y
+    edge-spread hx hy = ap (λ (k : ℕ). (ends x y + k) % 2 ^ 64) (o .spreads) ∙ go (keeps (d .a)) refl
+      where
+        go : (b : Bool) → keeps (d .a) ≡ b
+            → (pairOf (sideAt d (x + choose b 0 15) y) (sideAt d (x + choose b 15 0) y)
+            + choose b (stepsOf 0 (d .a * 4294967289 % 4294967296)) (stepsOf (d .a * 4294967281 % 4294967296) (d .a * 8 % 4294967296))) % 2 ^ 64
+            ≡ firsts x y
+        go true s =
+            moves (x + 0) (x + 15) x (x + 8) y y 0 (d .a * 4294967289 % 4294967296) (omega arith) (omega arith) (omega arith) (omega arith) hy hy (omega arith) (omega arith)
+            (omega (arith, mul-add (d .a) x 0)) (omega (arith, mul-add (d .a) x 15, mul-add (d .a) x 8))
+        go false s =
+            moves (x + 15) (x + 0) x (x + 8) y y (d .a * 4294967281 % 4294967296) (d .a * 8 % 4294967296) (omega arith) (omega arith) (omega arith) (omega arith) hy hy (omega arith) (omega arith)
+            (omega (arith, mul-add (d .a) x 15)) (omega (arith, mul-add (d .a) x 0, mul-add (d .a) x 8))
+
+    edge-stepped : x + 9 ≤ 656 → y ≤ 512 → (firsts x y + d .both) % 2 ^ 64 ≡ firsts (x + 1) y
+    edge-stepped hx hy =
+        let i : x + 8 + 1 ≡ x + 1 + 8 = omega arith in
+        ap (λ (k : ℕ). (firsts x y + k) % 2 ^ 64) (o .boths)
+        ∙ moves x (x + 8) (x + 1) (x + 8 + 1) y y (d .a) (d .a) (omega arith) (omega arith) (omega arith) (omega arith) hy hy a-small a-small (one x) (one (x + 8))
+        ∙ ap (λ (k : ℕ). pairOf (sideAt d (x + 1) y) (sideAt d k y)) i
+      where
+        one : (x : ℕ) → (sideAt d x y + d .a) % 4294967296 ≡ sideAt d (x + 1) y
+        one x = omega (arith, mul-add (d .a) x 1, mul-one (d .a))
+
+-- ---- a group
+
+module _ (t : Triangle) (x y : ℕ) (d : Sides) (g : SidesAt t x y d) where
   w1 : EdgeWithin (edge1 t)
   w1 = edge-within (edge1 t) (edges-in-range t (g .in-range) .0)
 
@@ -90,33 +147,28 @@ module _ (n : ℕ) (t : Triangle) (x y : ℕ) (v : Values) (d : Sides) (g : Leav
   w3 : EdgeWithin (edge3 t)
   w3 = edge-within (edge3 t) (edges-in-range t (g .in-range) .2)
 
-  leaf-kept : (k : ℕ) → k ≤ n → allKept (valuesAt d (x + k) y) ≡ leafInside t x y k
+  pub leaf-kept : (k : ℕ) → k ≤ 15 → allKept (valuesAt d (x + k) y) ≡ leafInside t x y k
   unfolding insideAll
   leaf-kept k h =
-      let c : x + k ≤ 640 = omega (arith, g .column) in
+      let c : x + k ≤ 656 = omega (arith, g .column) in
       both
       (both (keeps-inside (edge1 t) (first d) w1 (g .sides .of1) (x + k) y c (g .row))
       (keeps-inside (edge2 t) (second d) w2 (g .sides .of2) (x + k) y c (g .row)))
       (keeps-inside (edge3 t) (third d) w3 (g .sides .of3) (x + k) y c (g .row))
 
-  pub mask-leaves : maskOf (keptAfter v (d .a)) (n + 1) ≡ maskOf (leafInside t x y) (n + 1)
-  mask-leaves =
-      mask-same (keptAfter v (d .a)) (leafInside t x y) (n + 1)
-      (λ k h.
-      ap (λ (u : Values). allKept (after u (d .a) k)) (g .values)
-      ∙ ap allKept (after-at d x y k)
-      ∙ leaf-kept k (omega arith))
+  -- the best leaves' bit, and the worst ones'
+  pub ends-kept : pairsKept (endsAt d x y) ≡ bit (allKept (eachAt bestLeaf d x y)) * 4294967296 + bit (allKept (eachAt worstLeaf d x y))
+  ends-kept =
+      pairs-kept (eachAt worstLeaf d x y) (eachAt bestLeaf d x y) (omega arith, omega arith, omega arith) (omega arith, omega arith, omega arith)
 
-  -- a move that f computes from each edge's step
-  module _ (f : ℕ → ℕ) (by : Values) (e : by ≡ each f (d .a)) where
-    here : (b : Bool) → allKept (moved v by) ≡ b → allKept (moved (valuesAt d x y) (each f (d .a))) ≡ b
-    here b h = ap₂ (λ (n m : Values). allKept (moved n m)) (sym (g .values)) (sym e) ∙ h
+  wide : x + 15 ≤ 656
+  wide = omega (arith, g .column)
 
-  pub all-miss : (by : Values) → by ≡ each (reachOf n) (d .a) → allKept (moved v by) ≡ false → (k : ℕ) → k ≤ n → leafInside t x y k ≡ false
-  all-miss by m h k hk = last (and-false (A && B) C (here (reachOf n) by m false h))
+  pub all-miss : allKept (eachAt bestLeaf d x y) ≡ false → (k : ℕ) → k ≤ 15 → leafInside t x y k ≡ false
+  all-miss h k hk = last (and-false (A && B) C h)
     where
       u : Values
-      u = moved (valuesAt d x y) (each (reachOf n) (d .a))
+      u = eachAt bestLeaf d x y
 
       A : Bool
       A = keeps (u .p)
@@ -131,43 +183,88 @@ module _ (n : ℕ) (t : Triangle) (x y : ℕ) (v : Values) (d : Sides) (g : Leav
       q = sample (x + k) y
 
       by1 : A ≡ false → leafInside t x y k ≡ false
-      by1 e = out1 t q (misses (edge1 t) (first d) w1 (g .sides .of1) n x y (g .column) (g .row) e k hk)
+      by1 e = out1 t q (misses (edge1 t) (first d) w1 (g .sides .of1) x y wide (g .row) e k hk)
 
       by2 : B ≡ false → leafInside t x y k ≡ false
-      by2 e = out2 t q (misses (edge2 t) (second d) w2 (g .sides .of2) n x y (g .column) (g .row) e k hk)
+      by2 e = out2 t q (misses (edge2 t) (second d) w2 (g .sides .of2) x y wide (g .row) e k hk)
 
       by3 : C ≡ false → leafInside t x y k ≡ false
-      by3 e = out3 t q (misses (edge3 t) (third d) w3 (g .sides .of3) n x y (g .column) (g .row) e k hk)
+      by3 e = out3 t q (misses (edge3 t) (third d) w3 (g .sides .of3) x y wide (g .row) e k hk)
 
       last : (A && B ≡ false) ⊎ (C ≡ false) → leafInside t x y k ≡ false
       last (inl e) = ⊎-elim by1 by2 (and-false A B e)
       last (inr e) = by3 e
 
-  pub all-fill : (by : Values) → by ≡ each (fallOf n) (d .a) → allKept (moved v by) ≡ true → (k : ℕ) → k ≤ n → leafInside t x y k ≡ true
+  pub all-fill : allKept (eachAt worstLeaf d x y) ≡ true → (k : ℕ) → k ≤ 15 → leafInside t x y k ≡ true
   unfolding insideAll
-  all-fill by m h k hk =
-      let u = moved (valuesAt d x y) (each (fallOf n) (d .a)) in
-      let c = and-true {a = keeps (u .p) && keeps (u .q)} {b = keeps (u .r)} (here (fallOf n) by m true h) in
+  all-fill h k hk =
+      let u = eachAt worstLeaf d x y in
+      let c = and-true {a = keeps (u .p) && keeps (u .q)} {b = keeps (u .r)} h in
       let b = and-true {a = keeps (u .p)} {b = keeps (u .q)} (c .0) in
       both
-      (both (fills (edge1 t) (first d) w1 (g .sides .of1) n x y (g .column) (g .row) (b .0) k hk)
-      (fills (edge2 t) (second d) w2 (g .sides .of2) n x y (g .column) (g .row) (b .1) k hk))
-      (fills (edge3 t) (third d) w3 (g .sides .of3) n x y (g .column) (g .row) (c .1) k hk)
+      (both (fills (edge1 t) (first d) w1 (g .sides .of1) x y wide (g .row) (b .0) k hk)
+      (fills (edge2 t) (second d) w2 (g .sides .of2) x y wide (g .row) (b .1) k hk))
+      (fills (edge3 t) (third d) w3 (g .sides .of3) x y wide (g .row) (c .1) k hk)
 
--- ---- what the sides' rows hold
+  pub leaped : x + 16 ≤ 640 → pairsMoved (endsAt d x y) (d .leap) ≡ endsAt d (x + 16) y
+  leaped h =
+      λ i.
+      record {
+        p = edge-leaped (edge1 t) (first d) w1 (g .sides .of1) x y (omega arith) (g .row) i;
+        q = edge-leaped (edge2 t) (second d) w2 (g .sides .of2) x y (omega arith) (g .row) i;
+        r = edge-leaped (edge3 t) (third d) w3 (g .sides .of3) x y (omega arith) (g .row) i;
+      }
 
-module _ {t : Triangle} {d : Sides} (o : SidesOf t d) where
-  pub reach-is : d .reach ≡ each (reachOf 15) (d .a)
-  reach-is = λ i. record { p = o .of1 .reaches i; q = o .of2 .reaches i; r = o .of3 .reaches i }
+  pub lowered : y + 1 ≤ 512 → pairsMoved (endsAt d x y) (d .down) ≡ endsAt d x (y + 1)
+  lowered h =
+      λ i.
+      record {
+        p = edge-lowered (edge1 t) (first d) w1 (g .sides .of1) x y wide h i;
+        q = edge-lowered (edge2 t) (second d) w2 (g .sides .of2) x y wide h i;
+        r = edge-lowered (edge3 t) (third d) w3 (g .sides .of3) x y wide h i;
+      }
 
-  pub fall-is : d .fall ≡ each (fallOf 15) (d .a)
-  fall-is = λ i. record { p = o .of1 .falls i; q = o .of2 .falls i; r = o .of3 .falls i }
+  pub spread-out : pairsMoved (endsAt d x y) (d .spread) ≡ firstAt d x y
+  spread-out =
+      λ i.
+      record {
+        p = edge-spread (edge1 t) (first d) w1 (g .sides .of1) x y wide (g .row) i;
+        q = edge-spread (edge2 t) (second d) w2 (g .sides .of2) x y wide (g .row) i;
+        r = edge-spread (edge3 t) (third d) w3 (g .sides .of3) x y wide (g .row) i;
+      }
 
-  pub best-is : d .best ≡ each (reachOf 3) (d .a)
-  best-is = λ i. record { p = o .of1 .bests i; q = o .of2 .bests i; r = o .of3 .bests i }
+  pub stepped : (k : ℕ) → k < 8 → pairsMoved (firstAt d (x + k) y) (d .both) ≡ firstAt d (x + k + 1) y
+  stepped k h =
+      let c : x + k + 9 ≤ 656 = omega (arith, g .column) in
+      λ i.
+      record {
+        p = edge-stepped (edge1 t) (first d) w1 (g .sides .of1) (x + k) y c (g .row) i;
+        q = edge-stepped (edge2 t) (second d) w2 (g .sides .of2) (x + k) y c (g .row) i;
+        r = edge-stepped (edge3 t) (third d) w3 (g .sides .of3) (x + k) y c (g .row) i;
+      }
 
-  pub leaped : (x y : ℕ) → moved (valuesAt d x y) (d .leap) ≡ valuesAt d (x + 16) y
-  leaped x y = moved-far d 16 x y (d .leap) (λ i. record { p = o .of1 .leaps i; q = o .of2 .leaps i; r = o .of3 .leaps i })
+-- ---- from the first leaf's values to the ends
 
-  pub strode : (x y : ℕ) → moved (valuesAt d x y) (d .stride) ≡ valuesAt d (x + 4) y
-  strode x y = moved-far d 4 x y (d .stride) (λ i. record { p = o .of1 .strides i; q = o .of2 .strides i; r = o .of3 .strides i })
+module _ (d : Side) (x y : ℕ) where
+  to-best : (b : Bool) → (sideAt d x y + choose b (d .a * 15 % 4294967296) 0) % 4294967296 ≡ sideAt d (x + choose b 15 0) y
+  to-best true = step-right d x 15 y
+  to-best false = omega (arith, mul-add (d .a) x 0)
+
+  to-worst : (b : Bool) → (sideAt d x y + choose b 0 (d .a * 15 % 4294967296)) % 4294967296 ≡ sideAt d (x + choose b 0 15) y
+  to-worst true = omega (arith, mul-add (d .a) x 0)
+  to-worst false = step-right d x 15 y
+
+  best-value : {e : Edge} → SideOf e d → (sideAt d x y + d .reach) % 4294967296 ≡ sideAt d (x + bestLeaf (d .a)) y
+  best-value o = ap (λ (n : ℕ). (sideAt d x y + n) % 4294967296) (o .reaches) ∙ to-best (keeps (d .a))
+
+  worst-value : {e : Edge} → SideOf e d → (sideAt d x y + d .fall) % 4294967296 ≡ sideAt d (x + worstLeaf (d .a)) y
+  worst-value o = ap (λ (n : ℕ). (sideAt d x y + n) % 4294967296) (o .falls) ∙ to-worst (keeps (d .a))
+
+module _ {t : Triangle} {d : Sides} (o : SidesOf t d) (x y : ℕ) where
+  pub best-values : moved (valuesAt d x y) (d .reach) ≡ eachAt bestLeaf d x y
+  best-values =
+      λ i. record { p = best-value (first d) x y (o .of1) i; q = best-value (second d) x y (o .of2) i; r = best-value (third d) x y (o .of3) i }
+
+  pub worst-values : moved (valuesAt d x y) (d .fall) ≡ eachAt worstLeaf d x y
+  worst-values =
+      λ i. record { p = worst-value (first d) x y (o .of1) i; q = worst-value (second d) x y (o .of2) i; r = worst-value (third d) x y (o .of3) i }

@@ -2,8 +2,9 @@
 pub mod Mask
 pub mod Along
 pub mod Codes
+pub mod Words
 pub mod Leaves
-pub mod Quads
+pub mod Halves
 pub mod Outside
 pub mod Raised
 pub mod Large

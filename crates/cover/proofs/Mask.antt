@@ -3,14 +3,13 @@ use Prim.Native.Nat.{ℕ, zero, suc, _+_, _*_, _^_, _≤_, _<_}
 use mathlib.Core.Path.{_≡_, refl, sym, _∙_, ap}
 use mathlib.Core.Bool.{Bool, true, false}
 use native.Mathlib.Numerals.{add-one}
-use native.Mathlib.Nat.{add-zero, pow-suc}
+use native.Mathlib.Nat.{add-zero, add-suc, mul-assoc, pow-suc}
 use native.Mathlib.Omega.{arith}
 use lib.Count.{ones, onesIn, ones-cat}
 use lib.Pow.{pow-mono}
 use Rattle.rules.specs.Turns.{bit, howMany}
 use Rattle.rules.proofs.Choices.{bit-le}
-use Rattle.cover.specs.Mask.{maskOf, after, moved}
-use Rattle.cover.specs.declared.Values.{Values}
+use Rattle.cover.specs.Mask.{maskOf}
 
 pub bit-zero : (b : Bool) → bit b ≡ 0 → b ≡ false
 bit-zero true h = absurd (omega arith)
@@ -30,20 +29,14 @@ module _ (f : ℕ → Bool) where
   unfolding maskOf
   mask-more k = rw add-one
 
-  step : (i j : ℕ) → i + 1 ≡ j → maskOf f j ≡ maskOf f i * 2 + bit (f i)
-  step i j e = ap (maskOf f) (sym e) ∙ mask-more i
-
-  pub mask-four : (k : ℕ) → maskOf f (k + 4) ≡ maskOf f k * 16 + maskOf (λ i. f (k + i)) 4
+  -- the leaves in two parts
+  pub mask-cat : (k n : ℕ) → maskOf f (k + n) ≡ maskOf f k * 2 ^ n + maskOf (λ i. f (k + i)) n
   unfolding maskOf
-  mask-four k =
-      rw add-zero
-      (omega (
-        arith,
-        step k (k + 1) (omega arith),
-        step (k + 1) (k + 2) (omega arith),
-        step (k + 2) (k + 3) (omega arith),
-        step (k + 3) (k + 4) (omega arith),
-      ))
+  mask-cat k zero = rw add-zero (omega arith)
+  mask-cat k (suc n) =
+      let e : maskOf f (k + suc n) ≡ maskOf f (k + n) * 2 + bit (f (k + n)) = rw (add-suc k n) in
+      let p : 2 ^ suc n ≡ 2 ^ n * 2 = pow-suc 2 n in
+      omega (arith, mask-cat k n, mul-assoc (maskOf f k) (2 ^ n) 2, ap (λ (q : ℕ). maskOf f k * q) p)
 
   pub mask-none : maskOf f 0 ≡ 0
   unfolding maskOf
@@ -89,11 +82,3 @@ module _ (f : ℕ → Bool) where
       let b : bit (f k) ≡ 1 = ap bit (h k (omega arith)) in
       let p : 2 ^ suc k ≡ 2 ^ k * 2 = pow-suc 2 k in
       omega arith
-
-pub after-more : (v right : Values) (k : ℕ) → after v right (k + 1) ≡ moved (after v right k) right
-unfolding after
-after-more v right k = rw add-one
-
-pub after-none : (v right : Values) → after v right 0 ≡ v
-unfolding after
-after-none v right = refl

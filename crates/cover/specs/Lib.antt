@@ -2,3 +2,4 @@
 pub mod Side
 pub mod Mask
 pub mod Extent
+pub mod Pairs

@@ -1,15 +1,13 @@
 -- Masks of a group's leaves, leaf 0 in the top bit, and the values of the three sides as they step to the right.
-use Prim.Native.Nat.{ℕ, zero, suc, _+_, _*_, _%_, _≤_, _<_}
-use mathlib.Core.Path.{_≡_}
-use mathlib.Core.Bool.{Bool, true, _&&_}
+use Prim.Native.Nat.{ℕ, zero, suc, _+_, _*_, _%_}
+use mathlib.Core.Bool.{Bool, _&&_}
 use lib.Dec.{ltb}
 use Rattle.rules.specs.declared.Triangle.{Triangle}
 use Rattle.rules.specs.Turns.{bit}
 use Rattle.rules.specs.Triangles.{sample, insideAll}
-use Rattle.rules.specs.Numbers.{verticesInRange}
 use Rattle.cover.specs.declared.Sides.{Sides}
 use Rattle.cover.specs.declared.Values.{Values}
-use Rattle.cover.specs.Side.{sideAt, first, second, third, SidesOf}
+use Rattle.cover.specs.Side.{sideAt, first, second, third}
 
 unfoldable pub maskOf : (ℕ → Bool) → ℕ → ℕ
 maskOf leaf zero = 0
@@ -29,31 +27,6 @@ keeps v = ltb v 2147483648
 abbrev pub allKept : Values → Bool
 allKept v = keeps (v .p) && keeps (v .q) && keeps (v .r)
 
--- after k steps to the right
-unfoldable pub after : Values → Values → ℕ → Values
-after v right zero = v
-after v right (suc k) = moved (after v right k) right
-
-abbrev pub keptAfter : Values → Values → ℕ → Bool
-keptAfter v right k = allKept (after v right k)
-
 -- leaf k of the group that starts at pixel (x, y)
 abbrev pub leafInside : Triangle → ℕ → ℕ → ℕ → Bool
 leafInside t x y k = insideAll t (sample (x + k) y)
-
--- v holds the values at pixel (x, y), with n leaves to its right, of the triangle's sides d
-pub record LeavesAt (n : ℕ) (t : Triangle) (x y : ℕ) (v : Values) (d : Sides) : Type 0 where
-  pub in-range : verticesInRange t ≡ true
-  pub sides : SidesOf t d
-  pub column : x + n ≤ 640
-  pub row : y ≤ 512
-  pub values : v ≡ valuesAt d x y
-
--- the first pixel of a group
-abbrev pub GroupAt : Triangle → ℕ → ℕ → Values → Sides → Type 0
-GroupAt t x y v d = LeavesAt 15 t x y v d
-
--- m is the mask of the four leaves from v on
-pub record QuadMask (v : Values) (d : Sides) (m : ℕ) : Type 0 where
-  pub four : m < 16
-  pub names : (t : Triangle) (x y : ℕ) → LeavesAt 3 t x y v d → m ≡ maskOf (leafInside t x y) 4

@@ -7,10 +7,11 @@ use lib.IntN.{ℤ, pos, _-ℤ_, _*ℤ_}
 use Rattle.ints.specs.Modulo.{mod32}
 use Rattle.rules.specs.declared.Triangle.{Triangle}
 use Rattle.rules.specs.Turns.{choose}
-use Rattle.rules.specs.Triangles.{Edge, dy, edge1, edge2, edge3, edgeValue, sample, keepsZero}
+use Rattle.rules.specs.Triangles.{Edge, dx, dy, edge1, edge2, edge3, edgeValue, sample, keepsZero}
 use Rattle.rules.specs.Numbers.{vertexInRange}
 use Rattle.cover.specs.declared.Side.{Side}
 use Rattle.cover.specs.declared.Sides.{Sides}
+use Rattle.cover.specs.declared.Pairs.{Pairs}
 use Rattle.cover.specs.declared.Values.{Values}
 
 abbrev pub edgeFrom : ℤ → ℤ → ℤ → ℤ → Edge
@@ -30,12 +31,30 @@ slope e = pos 0 -ℤ pos 8 *ℤ dy e
 abbrev pub sideAt : Side → ℕ → ℕ → ℕ
 sideAt d x y = (d .c + d .a * x + d .b * y) % 4294967296
 
--- the most and the least that the steps to the n leaves on the right add, a standing for a negative number from 2^31 on
-abbrev pub reachOf : ℕ → ℕ → ℕ
-reachOf n a = choose (ltb a 2147483648) (a * n % 4294967296) 0
+-- a group's leaf with the most, and the one with the least, where a stands for a negative number from 2^31 on
+abbrev pub bestLeaf : ℕ → ℕ
+bestLeaf a = choose (ltb a 2147483648) 15 0
 
-abbrev pub fallOf : ℕ → ℕ → ℕ
-fallOf n a = choose (ltb a 2147483648) 0 (a * n % 4294967296)
+abbrev pub worstLeaf : ℕ → ℕ
+worstLeaf a = choose (ltb a 2147483648) 0 15
+
+-- what they add to the group's first value
+abbrev pub reachOf : ℕ → ℕ
+reachOf a = choose (ltb a 2147483648) (a * 15 % 4294967296) 0
+
+abbrev pub fallOf : ℕ → ℕ
+fallOf a = choose (ltb a 2147483648) 0 (a * 15 % 4294967296)
+
+-- steps of two values in one word, the upper one 2^32 times the lower: where the lower one steps back, it borrows from the upper
+abbrev pub stepsOf : ℕ → ℕ → ℕ
+stepsOf low high = choose (ltb low 2147483648) high ((high + 4294967295) % 4294967296) * 4294967296 + low
+
+-- from the worst and the best leaf to the first and the ninth; a times 2^32 - 15 and 2^32 - 7 are 15 and 7 steps back
+abbrev pub spreadOf : ℕ → ℕ
+spreadOf a =
+    choose (ltb a 2147483648)
+    (stepsOf 0 (a * 4294967289 % 4294967296))
+    (stepsOf (a * 4294967281 % 4294967296) (a * 8 % 4294967296))
 
 abbrev pub sideFrom : ℕ → ℕ → ℕ → Side
 sideFrom c a b =
@@ -43,24 +62,30 @@ sideFrom c a b =
       c = c;
       a = a;
       b = b;
-      reach = reachOf 15 a;
-      fall = fallOf 15 a;
-      leap = a * 16 % 4294967296;
-      best = reachOf 3 a;
-      stride = a * 4 % 4294967296;
+      reach = reachOf a;
+      fall = fallOf a;
+      leap = stepsOf (a * 16 % 4294967296) (a * 16 % 4294967296);
+      down = stepsOf b b;
+      spread = spreadOf a;
+      both = stepsOf a a;
     }
 
 pub record SideOf (e : Edge) (d : Side) : Type 0 where
   pub here : (x y : ℕ) → sideAt d x y ≡ mod32 (sided e x y)
   pub right : d .a ≡ mod32 (slope e)
-  pub reaches : d .reach ≡ reachOf 15 (d .a)
-  pub falls : d .fall ≡ fallOf 15 (d .a)
-  pub leaps : d .leap ≡ d .a * 16 % 4294967296
-  pub bests : d .best ≡ reachOf 3 (d .a)
-  pub strides : d .stride ≡ d .a * 4 % 4294967296
+  pub below : d .b ≡ mod32 (pos 8 *ℤ dx e)
+  pub reaches : d .reach ≡ reachOf (d .a)
+  pub falls : d .fall ≡ fallOf (d .a)
+  pub leaps : d .leap ≡ stepsOf (d .a * 16 % 4294967296) (d .a * 16 % 4294967296)
+  pub downs : d .down ≡ stepsOf (d .b) (d .b)
+  pub spreads : d .spread ≡ spreadOf (d .a)
+  pub boths : d .both ≡ stepsOf (d .a) (d .a)
 
 abbrev pub valuesFrom : ℕ → ℕ → ℕ → Values
 valuesFrom a b c = record { p = a; q = b; r = c }
+
+abbrev pub pairsFrom : ℕ → ℕ → ℕ → Pairs
+pairsFrom a b c = record { p = a; q = b; r = c }
 
 -- three sides together, and each by itself
 abbrev pub sidesFrom : Side → Side → Side → Sides
@@ -72,8 +97,9 @@ sidesFrom p q r =
       reach = record { p = p .reach; q = q .reach; r = r .reach };
       fall = record { p = p .fall; q = q .fall; r = r .fall };
       leap = record { p = p .leap; q = q .leap; r = r .leap };
-      best = record { p = p .best; q = q .best; r = r .best };
-      stride = record { p = p .stride; q = q .stride; r = r .stride };
+      down = record { p = p .down; q = q .down; r = r .down };
+      spread = record { p = p .spread; q = q .spread; r = r .spread };
+      both = record { p = p .both; q = q .both; r = r .both };
     }
 
 abbrev pub first : Sides → Side
@@ -85,8 +111,9 @@ first d =
       reach = d .reach .p;
       fall = d .fall .p;
       leap = d .leap .p;
-      best = d .best .p;
-      stride = d .stride .p;
+      down = d .down .p;
+      spread = d .spread .p;
+      both = d .both .p;
     }
 
 abbrev pub second : Sides → Side
@@ -98,8 +125,9 @@ second d =
       reach = d .reach .q;
       fall = d .fall .q;
       leap = d .leap .q;
-      best = d .best .q;
-      stride = d .stride .q;
+      down = d .down .q;
+      spread = d .spread .q;
+      both = d .both .q;
     }
 
 abbrev pub third : Sides → Side
@@ -111,8 +139,9 @@ third d =
       reach = d .reach .r;
       fall = d .fall .r;
       leap = d .leap .r;
-      best = d .best .r;
-      stride = d .stride .r;
+      down = d .down .r;
+      spread = d .spread .r;
+      both = d .both .r;
     }
 
 pub record SidesOf (t : Triangle) (d : Sides) : Type 0 where

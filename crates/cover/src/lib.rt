@@ -5,17 +5,19 @@ pub mod group;
 pub mod setup;
 
 // One edge, ready for stepping: its value is c + a·x + b·y modulo 2^32, less 1 where its zeros are outside, so that a pixel is inside where
-// the value is not negative. `reach` is the most and `fall` the least that a group's leaves add to its first value, `leap` what a group adds;
-// `best` is the most that four leaves add to their first value, `stride` what four leaves add.
+// the value is not negative. `reach` is the most and `fall` the least that a group's leaves add to its first value. The others step two values
+// in one word: `leap` a group to the right, `down` a row down, `both` a leaf to the right, `spread` from a group's worst and best leaf to its
+// first and its ninth.
 pub struct Side {
     pub c: u32,
     pub a: u32,
     pub b: u32,
     pub reach: u32,
     pub fall: u32,
-    pub leap: u32,
-    pub best: u32,
-    pub stride: u32,
+    pub leap: u64,
+    pub down: u64,
+    pub spread: u64,
+    pub both: u64,
 }
 
 // A number for each of the three edges.
@@ -25,6 +27,13 @@ pub struct Values {
     pub r: u32,
 }
 
+// A word for each of the three edges, with two of the edge's values or with what steps them.
+pub struct Pairs {
+    pub p: u64,
+    pub q: u64,
+    pub r: u64,
+}
+
 // The sides of a triangle's three edges.
 pub struct Sides {
     pub c: Values,
@@ -32,7 +41,8 @@ pub struct Sides {
     pub b: Values,
     pub reach: Values,
     pub fall: Values,
-    pub leap: Values,
-    pub best: Values,
-    pub stride: Values,
+    pub leap: Pairs,
+    pub down: Pairs,
+    pub spread: Pairs,
+    pub both: Pairs,
 }

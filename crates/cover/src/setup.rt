@@ -1,10 +1,12 @@
 // From vertices to sides.
+use crate::Pairs;
 use crate::Side;
 use crate::Sides;
 use crate::Values;
 use rules::Triangle;
 use words::low32;
 use words::product32;
+use words::sum32;
 ghost use mathlib.Core.Path.{_≡_};
 ghost use mathlib.Core.Bool.{true, _||_, _&&_};
 ghost use lib.IntN.{pos};
@@ -12,7 +14,7 @@ ghost use Rattle.rules.specs.Turns.{choose};
 ghost use Prim.Native.Nat.{_≤_};
 ghost use Rattle.rules.specs.Triangles.{positive, isZero, negative, edgeValue, sample};
 ghost use Rattle.rules.specs.Numbers.{verticesInRange};
-ghost use Rattle.cover.specs.Side.{edgeFrom, edgeInRange, sideFrom, valuesFrom, sidesFrom, SideOf, SidesOf};
+ghost use Rattle.cover.specs.Side.{edgeFrom, edgeInRange, stepsOf, spreadOf, sideFrom, valuesFrom, pairsFrom, sidesFrom, SideOf, SidesOf};
 
 // How far to the right and down in its pixel the sample point lies.
 const SAMPLE_OFFSET: i64 = 0;
@@ -59,14 +61,37 @@ pub fn side(x1: i32, y1: i32, x2: i32, y2: i32) -> Side
     stepping(c, a, b)
 }
 
-// A side with what its leaves add: reach and best where a is not negative, else fall.
+// What steps two values in one word: the upper half pays what the lower one borrows.
+fn steps(low: u32, high: u32) -> u64
+    ensures { λ r. ⌜ r ≡ stepsOf low high ⌝ }
+{
+    if low < 2147483648 {
+        return high as u64 * 4294967296 + low as u64;
+    }
+    let paid = sum32(high, 4294967295);
+    paid as u64 * 4294967296 + low as u64
+}
+
+// The step from a group's worst and best leaf, which are its ends, to its first and its ninth; back by 15 and by 7 modulo 2^32.
+fn spread(a: u32) -> u64
+    ensures { λ r. ⌜ r ≡ spreadOf a ⌝ }
+{
+    if a < 2147483648 {
+        return steps(0, product32(a, 4294967289));
+    }
+    steps(product32(a, 4294967281), product32(a, 8))
+}
+
+// A side with what steps it; reach is that of the last leaf where a is not negative, else fall is.
 fn stepping(c: u32, a: u32, b: u32) -> Side
     ensures { λ r. ⌜ r ≡ sideFrom c a b ⌝ }
 {
     let across = product32(a, 15);
-    let leap = product32(a, 16);
-    let near = product32(a, 3);
-    let stride = product32(a, 4);
+    let far = product32(a, 16);
+    let leap = steps(far, far);
+    let down = steps(b, b);
+    let spread = spread(a);
+    let both = steps(a, a);
     if a < 2147483648 {
         return Side {
             c,
@@ -75,8 +100,9 @@ fn stepping(c: u32, a: u32, b: u32) -> Side
             reach: across,
             fall: 0,
             leap,
-            best: near,
-            stride,
+            down,
+            spread,
+            both,
         };
     }
     Side {
@@ -86,8 +112,9 @@ fn stepping(c: u32, a: u32, b: u32) -> Side
         reach: 0,
         fall: across,
         leap,
-        best: 0,
-        stride,
+        down,
+        spread,
+        both,
     }
 }
 
@@ -112,9 +139,10 @@ fn together(p: Side, q: Side, r: Side) -> Sides
         b: three(p.b, q.b, r.b),
         reach: three(p.reach, q.reach, r.reach),
         fall: three(p.fall, q.fall, r.fall),
-        leap: three(p.leap, q.leap, r.leap),
-        best: three(p.best, q.best, r.best),
-        stride: three(p.stride, q.stride, r.stride),
+        leap: words(p.leap, q.leap, r.leap),
+        down: words(p.down, q.down, r.down),
+        spread: words(p.spread, q.spread, r.spread),
+        both: words(p.both, q.both, r.both),
     }
 }
 
@@ -123,4 +151,11 @@ fn three(p: u32, q: u32, r: u32) -> Values
     ensures { λ v. ⌜ v ≡ valuesFrom p q r ⌝ }
 {
     Values { p, q, r }
+}
+
+// The words of the three edges.
+fn words(p: u64, q: u64, r: u64) -> Pairs
+    ensures { λ v. ⌜ v ≡ pairsFrom p q r ⌝ }
+{
+    Pairs { p, q, r }
 }

@@ -18,8 +18,9 @@ use Rattle.rules.proofs.Turns.{upto-add, upto-still, howMany-add, howMany-none,
 use Rattle.rules.proofs.Pixels.{Sound, On, and-l, and-r, sound-facts, width-le, height-le}
 use Rattle.rules.proofs.Drawing.{length-pixels, written-left}
 use Rattle.cover.specs.declared.Sides.{Sides}
-use Rattle.cover.specs.declared.Values.{Values}
-use Rattle.cover.specs.Mask.{GroupAt, leafInside, maskOf, valuesAt, moved}
+use Rattle.cover.specs.declared.Pairs.{Pairs}
+use Rattle.cover.specs.Mask.{leafInside, maskOf}
+use Rattle.cover.specs.Pairs.{pairsMoved, endsAt, SidesAt, GroupAt}
 use Rattle.cover.proofs.Mask.{mask-same}
 use Rattle.cover.proofs.Leaves.{leaped}
 use Rattle.cover.proofs.Unbroken.{past-run}
@@ -53,33 +54,33 @@ module _ (t : Triangle) (s : Screen) (n x y : ℕ) (o : GroupOn n s x y) where
         draws = record { counts = sym (none-written s t x y m 16 none); leaves = sym (stretch-still s t x y m 16 none) };
       }
 
-pub record Across (m₀ : List ℕ) (s : Screen) (t : Triangle) (d : Sides) (y b : ℕ) (m : List ℕ) (g : ℕ) (v : Values) (c w : ℕ) : Type 0 where
+pub record Across (m₀ : List ℕ) (s : Screen) (t : Triangle) (d : Sides) (y b : ℕ) (m : List ℕ) (g : ℕ) (v : Pairs) (c w : ℕ) : Type 0 where
   pub before-end : g ≤ b
-  pub is-values : v ≡ valuesAt d (g * 16) y
+  pub is-ends : v ≡ endsAt d (g * 16) y
   pub is-memory : m ≡ upto (pixelDrawn t s y) (g * 16) m₀
   pub is-covered : c ≡ howMany (λ x. covered t s x y) (g * 16)
   pub is-written : w ≡ howMany (λ x. written t s m₀ x y) (g * 16)
 
-module _ (m₀ : List ℕ) (s : Screen) (t : Triangle) (d : Sides) (y a b : ℕ) (q : RowAsked (length m₀) s t d y a b) where
+module _ (m₀ : List ℕ) (s : Screen) (t : Triangle) (d : Sides) (v₀ : Pairs) (y a b : ℕ) (q : RowAsked (length m₀) s t d v₀ y a b) where
   facts : Sound (length m₀) s
   facts = sound-facts (q .is-sound)
 
   on : (x : ℕ) → x < width (s .size) → On s x y
   on x h = record { across = h; down = q .row }
 
-  pub across-first : Across m₀ s t d y b m₀ a (valuesAt d (a * 16) y) 0 0
+  pub across-first : Across m₀ s t d y b m₀ a v₀ 0 0
   across-first =
       let none : (x : ℕ) → x < a * 16 → covered t s x y ≡ false =
       λ x h. outside-uncovered t s (on x (omega (arith, q .ordered, q .columns))) (q .before x h) in
       record {
         before-end = q .ordered;
-        is-values = refl;
+        is-ends = q .ends;
         is-memory = sym (upto-still (pixelDrawn t s y) (a * 16) m₀ (λ x h. pixel-still t s y x m₀ (none x h)));
         is-covered = sym (howMany-none (λ x. covered t s x y) (a * 16) none);
         is-written = sym (howMany-none (λ x. written t s m₀ x y) (a * 16) (λ x h. not-written t s m₀ x y (none x h)));
       }
 
-  module _ (m : List ℕ) (g : ℕ) (v : Values) (c w : ℕ) (u : Across m₀ s t d y b m g v c w) where
+  module _ (m : List ℕ) (g : ℕ) (v : Pairs) (c w : ℕ) (u : Across m₀ s t d y b m g v c w) where
     pub length-across : length m ≡ length m₀
     length-across = ap length (u .is-memory) ∙ length-pixels t s y (g * 16) m₀
 
@@ -92,27 +93,33 @@ module _ (m₀ : List ℕ) (s : Screen) (t : Triangle) (d : Sides) (y a b : ℕ)
           row = q .row;
         }
 
-    pub group-at : g < b → GroupAt t (g * 16) y v d
-    group-at h =
+    placed : g < b → SidesAt t (g * 16) y d
+    placed h =
         record {
           in-range = q .in-range;
           sides = q .sides;
           column = omega (arith, q .columns, width-le facts);
           row = omega (arith, q .row, height-le facts);
-          values = u .is-values;
+        }
+
+    pub group-at : g < b → GroupAt t (g * 16) y v d
+    group-at h =
+        record {
+          placed = placed h;
+          ends = u .is-ends;
         }
 
     pub across-more : g < b → (r : Counts) (m′ : List ℕ) → VisitDone m s t (g * 16) y r m′
-        → Across m₀ s t d y b m′ (g + 1) (moved v (d .leap)) (c + r .covered) (w + r .written)
+        → Across m₀ s t d y b m′ (g + 1) (pairsMoved v (d .leap)) (c + r .covered) (w + r .written)
     across-more h r m′ k =
         let x = g * 16 in
         let e : x + 16 ≡ (g + 1) * 16 = omega arith in
         record {
           before-end = omega arith;
-          is-values =
-              ap (λ (z : Values). moved z (d .leap)) (u .is-values)
-              ∙ leaped (q .sides) x y
-              ∙ ap (λ (n : ℕ). valuesAt d n y) e;
+          is-ends =
+              ap (λ (z : Pairs). pairsMoved z (d .leap)) (u .is-ends)
+              ∙ leaped t x y d (placed h) (omega (arith, q .columns, width-le facts))
+              ∙ ap (λ (n : ℕ). endsAt d n y) e;
           is-memory =
               k .draws .leaves
               ∙ ap (upto (λ i. pixelDrawn t s y (x + i)) 16) (u .is-memory)

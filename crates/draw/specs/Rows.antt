@@ -11,8 +11,10 @@ use Rattle.rules.specs.Turns.{howMany}
 use Rattle.rules.specs.Sizes.{groups, width, height, sound}
 use Rattle.rules.specs.Numbers.{verticesInRange}
 use Rattle.rules.specs.Triangles.{sample, insideAll, covered, written, rowDrawn, drawn, coveredPixels, writtenPixels}
+use Rattle.cover.specs.declared.Pairs.{Pairs}
 use Rattle.cover.specs.declared.Sides.{Sides}
 use Rattle.cover.specs.Side.{SidesOf}
+use Rattle.cover.specs.Pairs.{endsAt}
 use Rattle.draw.specs.declared.Counts.{Counts}
 use Rattle.draw.specs.declared.Span.{Span}
 use Rattle.draw.specs.Leaves.{GroupDone}
@@ -25,11 +27,12 @@ pub record VisitDone (m : List ℕ) (s : Screen) (t : Triangle) (x y : ℕ) (ans
 abbrev pub runEnded : ℕ → ℕ → Bool
 runEnded before now = not (eqb before 0) && eqb now 0
 
--- nothing of row y is inside but in the groups a to b
-pub record RowAsked (n : ℕ) (s : Screen) (t : Triangle) (d : Sides) (y a b : ℕ) : Type 0 where
+-- nothing of row y is inside but in the groups a to b, and v holds the first one's ends
+pub record RowAsked (n : ℕ) (s : Screen) (t : Triangle) (d : Sides) (v : Pairs) (y a b : ℕ) : Type 0 where
   pub is-sound : sound n s ≡ true
   pub in-range : verticesInRange t ≡ true
   pub sides : SidesOf t d
+  pub ends : v ≡ endsAt d (a * 16) y
   pub row : y < height (s .size)
   pub ordered : a ≤ b
   pub columns : b ≤ groups (s .size)

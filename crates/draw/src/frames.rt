@@ -3,6 +3,8 @@ use crate::Counts;
 use crate::rows::row;
 use crate::spans::touched_groups;
 use crate::spans::touched_rows;
+use cover::group::ends_at;
+use cover::group::pairs_plus;
 use cover::setup::sides;
 use rules::Screen;
 use rules::Triangle;
@@ -21,13 +23,16 @@ pub fn frame(ram: &mut [u8], s: Screen, t: Triangle) -> Counts
     let from = across.from;
     let to = across.to;
     let end = down.to;
+    let below = d.down;
     let mut y = down.from;
+    let mut ends = ends_at(d, from * 16, y);
     let mut covered: u32 = 0;
     let mut written: u32 = 0;
     while y < end {
-        let c = row(ram, s, t, d, y, from, to);
+        let c = row(ram, s, t, d, ends, y, from, to);
         covered += c.covered;
         written += c.written;
+        ends = pairs_plus(ends, below);
         y += 1;
     }
     Counts { covered, written }

@@ -1,7 +1,7 @@
 -- The laws of mod32: it takes sums and products to sums and products of naturals modulo 2^32, and it is the low half of a machine word. By cases on the signs, and omega.
 use mathlib.Core.Path.{_≡_, refl, ap, _∙_}
 use mathlib.Core.Bool.{Bool, true, false, cond}
-use Prim.Native.Nat.{ℕ, zero, suc, _+_, _*_, _-_, _%_, _<_}
+use Prim.Native.Nat.{ℕ, zero, suc, _+_, _*_, _-_, _%_, _≤_, _<_}
 use native.Mathlib.Nat.{mul-suc, mul-zero, add-mod-mod, mod-add-mod}
 use native.Mathlib.Omega.{arith}
 use lib.Bits
@@ -83,6 +83,13 @@ pub mod32-sign : (z : ℤ) → mag z < 2147483648 → ltb (mod32 z) 2147483648 �
 unfolding mod32
 mod32-sign (pos n) h = lt-ltb (n % 4294967296) 2147483648 (omega arith)
 mod32-sign (negsuc n) h = le-ltb (4294967295 - n % 4294967296) 2147483648 (omega arith)
+
+-- a number of 30 bits, raised by 2^31, is near the middle of 32 bits
+pub mod32-middle : (z : ℤ) → mag z < 536870912
+    → (1610612736 ≤ (mod32 z + 2147483648) % 4294967296) × ((mod32 z + 2147483648) % 4294967296 ≤ 2684354560)
+unfolding mod32
+mod32-middle (pos n) h = (omega arith, omega arith)
+mod32-middle (negsuc n) h = (omega arith, omega arith)
 
 -- 32 bits, read as signed and written again
 pub mod32-toZ : (n : ℕ) → n < 4294967296 → mod32 (toZ w32 n) ≡ n
