@@ -1,6 +1,6 @@
 -- The state as C has it, and the state that it stands for: 0 is no, any other number is yes, and yes is answered as 1.
 use Prim.Native.Nat.{ℕ}
-use mathlib.Core.Bool.{Bool, true, false, not}
+use mathlib.Core.Bool.{Bool, false, not}
 use mathlib.Core.List.{List}
 use lib.Dec.{eqb}
 use lib.ListN.{getD}

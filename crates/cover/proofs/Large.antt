@@ -1,6 +1,6 @@
 -- Number 7 is never answered: with vertices in range and at most 640 by 512 pixels an edge value is within 421,756,928.
 use Prim.Native.Nat.{ℕ, _≤_}
-use mathlib.Core.Path.{_≡_, refl, sym, _∙_, ap}
+use mathlib.Core.Path.{_≡_, refl, _∙_, ap}
 use mathlib.Core.Bool.{Bool, true, false, _&&_, _||_, not}
 use native.Mathlib.Omega.{arith}
 use lib.Dec.{leb, ltb}

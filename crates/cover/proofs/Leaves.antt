@@ -14,7 +14,7 @@ use Rattle.rules.specs.Triangles.{Edge, dx, edge1, edge2, edge3, Point, sample,
 use Rattle.cover.specs.declared.Side.{Side}
 use Rattle.cover.specs.declared.Sides.{Sides}
 use Rattle.cover.specs.declared.Values.{Values}
-use Rattle.cover.specs.Side.{slope, sideAt, bestLeaf, worstLeaf, reachOf, fallOf, stepsOf, first, second, third, SideOf, SidesOf}
+use Rattle.cover.specs.Side.{slope, sideAt, bestLeaf, worstLeaf, stepsOf, first, second, third, SideOf, SidesOf}
 use Rattle.cover.specs.Mask.{keeps, allKept, valuesAt, moved, leafInside}
 use Rattle.cover.specs.Pairs.{pairOf, pairsMoved, pairsKept, eachAt, endsAt, firstAt, SidesAt}
 use Rattle.cover.proofs.Along.{EdgeWithin, Middle, edge-within, edges-in-range, and-true, step-right, step-down, keeps-inside, side-middle, misses, fills}

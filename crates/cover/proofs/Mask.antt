@@ -1,6 +1,6 @@
 -- Laws of masks: one more leaf doubles, sixteen leaves fit 16 bits, the ones of a mask are the leaves it names, and equal leaves give equal masks.
 use Prim.Native.Nat.{ℕ, zero, suc, _+_, _*_, _^_, _≤_, _<_}
-use mathlib.Core.Path.{_≡_, refl, sym, _∙_, ap}
+use mathlib.Core.Path.{_≡_, refl, _∙_, ap}
 use mathlib.Core.Bool.{Bool, true, false}
 use native.Mathlib.Numerals.{add-one}
 use native.Mathlib.Nat.{add-zero, add-suc, mul-assoc, pow-suc}

@@ -1,6 +1,6 @@
 -- In a row the pixels inside an edge, and so the covered ones, have no gap: along a row an edge value only rises or only falls.
 use Prim.Native.Nat.{ℕ, _+_, _-_, _≤_, _<_}
-use mathlib.Core.Path.{_≡_, refl, sym, _∙_, ap₂, subst}
+use mathlib.Core.Path.{_≡_, refl, sym, _∙_, subst}
 use mathlib.Core.Bool.{Bool, true, false, _&&_}
 use native.Mathlib.Omega.{arith}
 use lib.Dec.{ltb}
@@ -10,7 +10,7 @@ use borrow.Author.Tests.{lt-ltb, ltb-true}
 use Rattle.ints.proofs.Order.{nonNeg-true, le-nonNeg, ≤ℤ-trans}
 use Rattle.rules.specs.declared.Screen.{Screen}
 use Rattle.rules.specs.declared.Triangle.{Triangle}
-use Rattle.rules.specs.Sizes.{width, height}
+use Rattle.rules.specs.Sizes.{width}
 use Rattle.rules.specs.Triangles.{Edge, edge1, edge2, edge3, sample, inside, insideAll, covered, onScreen}
 use Rattle.cover.specs.Side.{sided, slope}
 use Rattle.cover.proofs.Along.{and-true, inside-sided, rises, falls}

@@ -7,7 +7,6 @@ use lib.Bits
 use Rattle.rules.specs.declared.Triangle.{Triangle}
 use Rattle.rules.specs.Numbers.{verticesInRange}
 use Rattle.cover.specs.declared.Pairs.{Pairs}
-use Rattle.cover.specs.declared.Side.{Side}
 use Rattle.cover.specs.declared.Sides.{Sides}
 use Rattle.cover.specs.declared.Values.{Values}
 use Rattle.cover.specs.Side.{sideAt, bestLeaf, worstLeaf, first, second, third, SidesOf}

@@ -1,18 +1,18 @@
 -- The loop over the rows: what holds before row y, that rows with nothing inside may be skipped, and that one row more keeps it.
-use Prim.Native.Nat.{ℕ, zero, suc, _+_, _*_, _-_, _≤_, _<_}
+use Prim.Native.Nat.{ℕ, zero, suc, _+_, _-_, _≤_, _<_}
 use mathlib.Core.Path.{_≡_, refl, sym, _∙_, ap, ap₂, subst}
-use mathlib.Core.Bool.{Bool, true, false}
+use mathlib.Core.Bool.{false}
 use mathlib.Core.List.{List}
-use native.Mathlib.Nat.{add-zero, add-suc}
+use native.Mathlib.Nat.{add-zero}
 use native.Mathlib.Omega.{arith}
 use lib.ListN.{length}
 use Rattle.rules.specs.declared.Screen.{Screen}
 use Rattle.rules.specs.declared.Triangle.{Triangle}
-use Rattle.rules.specs.Turns.{upto, howMany, pixels}
+use Rattle.rules.specs.Turns.{upto, pixels}
 use Rattle.rules.specs.Sizes.{width, height}
 use Rattle.rules.specs.Triangles.{sample, insideAll, covered, written, pixelDrawn, rowDrawn, drawn}
-use Rattle.rules.proofs.Turns.{upto-none, upto-more, upto-still, howMany-none, howMany-same, pixels-more, pixels-none, pixels-le}
-use Rattle.rules.proofs.Pixels.{Sound, On}
+use Rattle.rules.proofs.Turns.{upto-none, upto-more, upto-still, howMany-none, howMany-same, pixels-more}
+use Rattle.rules.proofs.Pixels.{Sound}
 use Rattle.rules.proofs.Drawing.{length-rows, written-rows}
 use Rattle.draw.specs.declared.Counts.{Counts}
 use Rattle.draw.specs.Rows.{RowDone, FrameDone}

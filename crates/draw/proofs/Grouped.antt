@@ -1,9 +1,9 @@
 -- The loop over a group's leaves: what holds after k of them, that it holds at the first named leaf, that one leaf more keeps it, and that
 -- with none left the whole group is drawn. The leaves still to come have no gap, so the next one is among them.
-use Prim.Native.Nat.{ℕ, zero, suc, _+_, _*_, _-_, _≤_, _<_}
+use Prim.Native.Nat.{ℕ, _+_, _-_, _≤_, _<_}
 use mathlib.Core.Path.{_≡_, refl, sym, _∙_, ap, ap₂, subst}
 use mathlib.Core.Logic.{_≢_}
-use mathlib.Core.Bool.{Bool, true, false, _&&_}
+use mathlib.Core.Bool.{Bool, true, false}
 use mathlib.Core.List.{List}
 use native.Mathlib.Omega.{arith}
 use lib.Count.{ones, leadingZeros}
@@ -11,8 +11,8 @@ use lib.Dec.{leb}
 use lib.ListN.{length}
 use Rattle.rules.specs.declared.Screen.{Screen}
 use Rattle.rules.specs.declared.Triangle.{Triangle}
-use Rattle.rules.specs.Turns.{upto, bit, howMany, choose}
-use Rattle.rules.specs.Sizes.{width, height, colourAt, depthAt, half, putHalf, putPixel}
+use Rattle.rules.specs.Turns.{bit, howMany, choose}
+use Rattle.rules.specs.Sizes.{colourAt, depthAt, half, putHalf, putPixel}
 use Rattle.rules.specs.Triangles.{topHalf, packed, triangleDepth, triangleColour, covered, written, pixelDrawn}
 use Rattle.rules.proofs.Turns.{upto-more, upto-add, upto-still, howMany-more, howMany-add, howMany-none, howMany-some, howMany-rest}
 use Rattle.rules.proofs.Pixels.{Sound, On, sound-facts}
@@ -21,7 +21,7 @@ use Rattle.cover.proofs.Mask.{mask-ones}
 use Rattle.cover.proofs.Unbroken.{unbroken}
 use Rattle.draw.specs.declared.Tints.{Tints}
 use Rattle.draw.specs.Planes.{tintsAt, tintSteps, tintsMoved}
-use Rattle.draw.specs.Leaves.{passes, LeafDone, GroupOn, GroupAsked, GroupDone}
+use Rattle.draw.specs.Leaves.{passes, LeafDone, GroupOn, GroupDone}
 use Rattle.draw.proofs.Affine.{tints-right}
 use Rattle.draw.proofs.Named.{leading-named, first-named}
 use Rattle.draw.proofs.Stretch.{not-written, pixel-still, stretch, length-stretch, written-stretch}

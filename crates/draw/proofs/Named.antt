@@ -9,8 +9,7 @@ use lib.Count.{leadingZeros, leading-length, leading-top}
 use lib.Pow.{pow-mono}
 use Rattle.rules.specs.Turns.{bit}
 use Rattle.cover.specs.Mask.{maskOf}
-use Rattle.rules.proofs.Choices.{bit-le}
-use Rattle.cover.proofs.Mask.{bit-one, mask-lt}
+use Rattle.cover.proofs.Mask.{mask-lt}
 
 -- the first leaf is the top bit
 mask-head : (g : ℕ → Bool) (n : ℕ) → maskOf g (suc n) ≡ bit (g 0) * 2 ^ n + maskOf (λ i. g (suc i)) n

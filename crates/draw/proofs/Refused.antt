@@ -1,11 +1,10 @@
 -- A triangle's number from the screen's: the numbers 3 and 5 go first, and number 0 says that the screen is sound and the vertices are in range.
 use Prim.Native.Nat.{ℕ}
-use mathlib.Core.Path.{_≡_, refl, sym, _∙_, ap}
+use mathlib.Core.Path.{_≡_, refl, sym, _∙_}
 use mathlib.Core.Logic.{_≢_}
 use mathlib.Core.Bool.{Bool, true, false, not}
 use mathlib.Core.List.{List}
 use lib.ListN.{length}
-use borrow.Author.Tests.{eq-eqb, ne-eqb}
 use native.Mathlib.Omega.{arith}
 use Rattle.rules.specs.declared.Screen.{Screen}
 use Rattle.rules.specs.declared.Triangle.{Triangle}
@@ -13,7 +12,7 @@ use Rattle.rules.specs.Turns.{choose}
 use Rattle.rules.specs.Sizes.{width, height, sound}
 use Rattle.rules.specs.Numbers.{tooLong, clearNumber, triangleNumber, verticesInRange, triangleTooLarge}
 use Rattle.rules.specs.Triangles.{coveredPixels, writtenPixels, drawn}
-use Rattle.rules.specs.Calls.{Draws, accepted}
+use Rattle.rules.specs.Calls.{Draws}
 use Rattle.rules.proofs.Choices.{accepted-no, accepted-yes}
 use Rattle.draw.specs.declared.Counts.{Counts}
 use Rattle.draw.specs.Rows.{FrameAsked, FrameDone}

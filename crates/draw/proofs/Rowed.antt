@@ -1,8 +1,8 @@
 -- The loop over a row's groups: what holds before group g, that it holds at the first touched group, that one group more keeps it, and that the
 -- row is drawn once its groups are done or, since its covered pixels have no gap, once a group ends the run.
-use Prim.Native.Nat.{ℕ, zero, suc, _+_, _*_, _-_, _≤_, _<_}
+use Prim.Native.Nat.{ℕ, _+_, _*_, _-_, _≤_, _<_}
 use mathlib.Core.Path.{_≡_, refl, sym, _∙_, ap, ap₂, subst}
-use mathlib.Core.Bool.{Bool, true, false, not, _&&_}
+use mathlib.Core.Bool.{Bool, true, false, not}
 use mathlib.Core.List.{List}
 use native.Mathlib.Omega.{arith}
 use native.Mathlib.Nat.{add-zero}
@@ -11,8 +11,8 @@ use lib.ListN.{length}
 use borrow.Author.Tests.{lt-ltb, eqb-true, eqb-false, not-true}
 use Rattle.rules.specs.declared.Screen.{Screen}
 use Rattle.rules.specs.declared.Triangle.{Triangle}
-use Rattle.rules.specs.Turns.{upto, bit, howMany}
-use Rattle.rules.specs.Sizes.{groups, width, height, sound}
+use Rattle.rules.specs.Turns.{upto, howMany}
+use Rattle.rules.specs.Sizes.{width, sound}
 use Rattle.rules.specs.Triangles.{sample, insideAll, covered, written, pixelDrawn, rowDrawn}
 use Rattle.rules.proofs.Turns.{upto-add, upto-still, howMany-add, howMany-none, howMany-same, howMany-some, howMany-rest, howMany-nothing}
 use Rattle.rules.proofs.Pixels.{Sound, On, and-l, and-r, sound-facts, width-le, height-le}
@@ -25,7 +25,7 @@ use Rattle.cover.proofs.Mask.{mask-same}
 use Rattle.cover.proofs.Leaves.{leaped}
 use Rattle.cover.proofs.Unbroken.{past-run}
 use Rattle.draw.specs.declared.Counts.{Counts}
-use Rattle.draw.specs.Leaves.{GroupOn, GroupDone}
+use Rattle.draw.specs.Leaves.{GroupOn}
 use Rattle.draw.specs.Rows.{VisitDone, runEnded, RowAsked, RowDone}
 use Rattle.draw.proofs.Stretch.{not-written, pixel-still}
 use Rattle.draw.proofs.Named.{mask-zero}

@@ -1,15 +1,14 @@
 -- Laws of drawing a stretch of a row: a pixel to come is judged as before the stretch, and pixels that are not covered change nothing.
-use Prim.Native.Nat.{ℕ, zero, suc, _+_, _≤_, _<_}
-use mathlib.Core.Path.{_≡_, refl, sym, _∙_, ap}
+use Prim.Native.Nat.{ℕ, zero, suc, _+_, _≤_}
+use mathlib.Core.Path.{_≡_, refl, _∙_}
 use mathlib.Core.Logic.{inl}
-use mathlib.Core.Bool.{Bool, true, false, _&&_}
+use mathlib.Core.Bool.{false}
 use mathlib.Core.List.{List}
 use native.Mathlib.Omega.{arith}
 use lib.ListN.{length}
 use Rattle.rules.specs.declared.Screen.{Screen}
 use Rattle.rules.specs.declared.Triangle.{Triangle}
-use Rattle.rules.specs.Turns.{upto, choose}
-use Rattle.rules.specs.Sizes.{width, height}
+use Rattle.rules.specs.Turns.{upto}
 use Rattle.rules.specs.Triangles.{covered, written, pixelDrawn}
 use Rattle.rules.proofs.Turns.{upto-keeps}
 use Rattle.rules.proofs.Pixels.{Sound, On}

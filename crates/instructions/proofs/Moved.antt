@@ -1,15 +1,14 @@
 -- READ and WRITE, word by word and byte by byte, with no order of work in it: the sixteen words are copied, and all else stays.
 use Prim.Native.Nat.{ℕ, zero, suc, _+_, _-_, _*_, _/_, _%_, _≤_, _<_}
-use mathlib.Core.Path.{_≡_, refl, sym, _∙_, ap, ap₂}
-use mathlib.Core.Logic.{_≢_, _⊎_, inl, inr, ⊎-elim}
-use mathlib.Core.Bool.{Bool, true, false}
+use mathlib.Core.Path.{_≡_, refl, _∙_, ap₂}
+use mathlib.Core.Logic.{_⊎_, inl, inr, ⊎-elim}
 use mathlib.Core.List.{List}
 use native.Mathlib.Omega.{arith}
 use native.Mathlib.Decide.{decLt}
-use lib.ListN.{length, getD, set, length-set}
+use lib.ListN.{length, getD, length-set}
 use lib.Seq.{getD-set-same, getD-set-other}
 use Rattle.rules.specs.Turns.{upto}
-use Rattle.rules.specs.Sizes.{half, putHalf}
+use Rattle.rules.specs.Sizes.{putHalf}
 use Rattle.rules.proofs.Halves.{length-putHalf, half-put-same, half-put-other, byte-put-other}
 use Rattle.instructions.specs.Moves.{word, putWord, wordRead, wordsRead, wordWritten, wordsWritten}
 

@@ -1,6 +1,6 @@
 -- The numbers of a run: what is refused stays as it was, and what none refuses runs.
-use Prim.Native.Nat.{ℕ, _≤_}
-use mathlib.Core.Path.{_≡_, refl, sym, _∙_, ap}
+use Prim.Native.Nat.{ℕ}
+use mathlib.Core.Path.{_≡_, sym, _∙_, ap}
 use mathlib.Core.Logic.{_≢_}
 use mathlib.Core.List.{List}
 use mathlib.Core.Bool.{false, not}
@@ -9,7 +9,6 @@ use lib.Dec.{ltb, eqb}
 use borrow.Author.Tests.{ltb-false, eqb-true, ne-eqb, not-false}
 use Rattle.rules.specs.Sizes.{ramLimit}
 use Rattle.rules.specs.Numbers.{tooLong}
-use Rattle.rules.specs.Turns.{choose}
 use Rattle.instructions.specs.Step.{Machine}
 use Rattle.instructions.specs.Run.{run, steps, illFormed, machineNumber, runNumber}
 use Rattle.instructions.specs.Calls.{Runs}

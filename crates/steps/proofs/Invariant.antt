@@ -1,15 +1,13 @@
 -- The run's loop. What is left to run from here ends as the whole run does, and the steps so far with those left are the whole count.
-use Prim.Native.Nat.{ℕ, zero, suc, _+_, _-_, _≤_, _<_}
+use Prim.Native.Nat.{ℕ, suc, _+_, _-_, _≤_, _<_}
 use mathlib.Core.Path.{_≡_, refl, sym, _∙_, ap, subst}
 use mathlib.Core.Logic.{_≢_}
-use mathlib.Core.Bool.{Bool, true, false, not, false≢true, true≢false}
+use mathlib.Core.Bool.{Bool, true, false, not, false≢true}
 use mathlib.Core.List.{List}
 use native.Mathlib.Omega.{arith}
 use lib.ListN.{length}
-use lib.Dec.{eqb}
 use borrow.Author.Tests.{lt-ltb, le-ltb, eq-eqb, ne-eqb}
 use Rattle.rules.specs.Turns.{bit}
-use Rattle.instructions.specs.Words.{register}
 use Rattle.instructions.specs.Halts.{wordAt, haltNumber}
 use Rattle.instructions.specs.Step.{Machine, withState, withHalt, isHalted, step}
 use Rattle.instructions.specs.Run.{run, isCounted, steps}

@@ -1,18 +1,17 @@
 -- What the parts of a step may count on, and what they leave.
 use Prim.Native.Nat.{ℕ, _+_, _≤_, _<_}
 use mathlib.Core.Path.{_≡_}
-use mathlib.Core.Bool.{Bool, true, false}
+use mathlib.Core.Bool.{true, false}
 use mathlib.Core.List.{List}
 use lib.ListN.{length}
 use lib.Dec.{eqb}
 use Rattle.rules.specs.Turns.{choose}
 use Rattle.rules.specs.Sizes.{ramLimit, sound}
-use Rattle.instructions.specs.Opcodes.{LD, ST, DOT, WRITE, SCRSET, TREEPUT}
-use Rattle.instructions.specs.Words.{opcode, imm, inR1, inR2, inR3, register, address}
+use Rattle.instructions.specs.Opcodes.{LD, ST, DOT, WRITE}
+use Rattle.instructions.specs.Words.{opcode, inR1, inR2, inR3, register, address}
 use Rattle.instructions.specs.Tree.{refusesPlace}
 use Rattle.instructions.specs.Halts.{isMove, outsideData, moveOutsideData, moveOutsideRam, wordHalt}
 use Rattle.instructions.specs.Step.{Machine, withState, withHalt, effect, performed}
-use Rattle.instructions.specs.Run.{run, steps}
 use Rattle.steps.specs.declared.parts.Cpu.{Cpu}
 use Rattle.steps.specs.declared.parts.View.{View}
 use Rattle.steps.specs.Parts.{machine}

@@ -1,6 +1,6 @@
 -- A number of 32 bits is the same in 64.
 use mathlib.Core.Path.{_∙_, ap}
-use mir.Syntax.{w32, w64}
+use mir.Syntax.{w64}
 use Rattle.ints.specs.Modulo.{mod32}
 use Rattle.ints.proofs.Machine.{got-fits, Code, known, cast, need, reads-as}
 use Rattle.words.proofs.bits32.Statement.{statement}

@@ -1,11 +1,10 @@
 -- The mask keeps the low 32 bits of the word, and those are the number modulo 2^32. The result is below 2^32, so its signed reading is itself.
-use Prim.Native.Nat.{ℕ, _<_}
 use mathlib.Core.Path.{_≡_, sym, _∙_, ap, subst}
 use native.Mathlib.Omega.{arith}
 use lib.Bits
 use lib.Dec.{T}
 use lib.IntN.{ℤ, pos, natAbs}
-use lib.Signed.{mag, nonNeg}
+use lib.Signed.{nonNeg}
 use mir.Syntax.{w32, w64}
 use mir.Val.{ofZ, toZ, Fits, SFits}
 use mir.ValLaws.{toZ-pos}

@@ -1,5 +1,5 @@
 -- Each way out by its law: some edge misses its best leaf, all edges keep their worst ones, or the leaves two by two.
-use mathlib.Core.Path.{_≡_, sym, _∙_, ap}
+use mathlib.Core.Path.{sym, _∙_, ap}
 use native.Mathlib.Omega.{arith}
 use Rattle.rules.proofs.Choices.{bit-le}
 use Rattle.cover.specs.declared.Pairs.{Pairs}

@@ -1,10 +1,9 @@
 -- The loop's invariant is `Down`: what holds before row y. Rows outside the triangle's span are skipped by its law.
 use Prim.Native.Nat.{ℕ, _+_, _*_, _-_, _≤_, _<_}
-use mathlib.Core.Path.{_≡_, refl, sym, _∙_, ap, subst}
+use mathlib.Core.Path.{_≡_, sym, _∙_, ap, subst}
 use mathlib.Core.Bool.{true}
 use native.Mathlib.Nat.{zero-add}
 use native.Mathlib.Omega.{arith}
-use lib.ListN.{length}
 use Rattle.rules.specs.Sizes.{width, height, sound}
 use Rattle.rules.specs.Triangles.{covered, written}
 use Rattle.rules.proofs.Turns.{pixels-le}

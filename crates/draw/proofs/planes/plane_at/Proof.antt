@@ -1,6 +1,6 @@
 -- The three fields' bits, stepped modulo 2^32, are the plane's value.
-use Prim.Native.Nat.{ℕ, _+_, _*_, _%_}
-use mathlib.Core.Path.{_≡_, _∙_, ap}
+use Prim.Native.Nat.{_+_, _*_, _%_}
+use mathlib.Core.Path.{_≡_, _∙_}
 use native.Mathlib.Omega.{arith}
 use Rattle.ints.specs.Modulo.{mod32}
 use Rattle.draw.proofs.Affine.{plane-from, read-field}

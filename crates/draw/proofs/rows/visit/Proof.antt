@@ -1,6 +1,6 @@
 -- The mask names the covered leaves, so an empty one draws and counts nothing, and the ones of another are the covered leaves.
-use Prim.Native.Nat.{ℕ, _+_}
-use mathlib.Core.Path.{_≡_, sym, _∙_, ap}
+use Prim.Native.Nat.{_+_}
+use mathlib.Core.Path.{sym, _∙_, ap}
 use lib.Count.{ones}
 use Rattle.rules.specs.Triangles.{covered}
 use Rattle.cover.proofs.Mask.{mask-ones}

@@ -1,8 +1,8 @@
 -- A group outside the span lies wholly before the first touched column or from the past-touched one on.
-use Prim.Native.Nat.{ℕ, _+_, _*_, _/_, _≤_, _<_}
+use Prim.Native.Nat.{ℕ, _+_, _/_, _≤_, _<_}
 use mathlib.Core.Path.{_≡_}
 use mathlib.Core.Logic.{_⊎_, ⊎-elim}
-use mathlib.Core.Bool.{true, false}
+use mathlib.Core.Bool.{false}
 use native.Mathlib.Omega.{arith}
 use Rattle.rules.specs.Triangles.{sample, insideAll}
 use Rattle.cover.proofs.Along.{six}

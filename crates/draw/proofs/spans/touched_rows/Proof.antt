@@ -1,9 +1,8 @@
 -- A row outside the span lies before the first touched one or from the past-touched one on.
-use Prim.Native.Nat.{ℕ, _+_, _*_, _/_, _≤_, _<_}
+use Prim.Native.Nat.{ℕ, _≤_, _<_}
 use mathlib.Core.Path.{_≡_}
 use mathlib.Core.Logic.{_⊎_, ⊎-elim}
-use mathlib.Core.Bool.{true, false}
-use native.Mathlib.Omega.{arith}
+use mathlib.Core.Bool.{false}
 use Rattle.rules.specs.Triangles.{sample, insideAll}
 use Rattle.cover.proofs.Along.{six}
 use Rattle.draw.proofs.Touch.{still-in, read-before, read-beyond, row-before, row-beyond}

@@ -1,13 +1,12 @@
 -- The tests in the table's order.
-use Prim.Native.Nat.{ℕ}
 use mathlib.Core.Path.{_≡_, sym, _∙_, ap, ap₂}
 use mathlib.Core.Bool.{Bool, true, false, not}
 use native.Mathlib.Omega.{arith}
 use borrow.Author.Tests.{not-true, not-false}
 use Rattle.rules.specs.Turns.{choose}
 use Rattle.rules.specs.Sizes.{width, height}
-use Rattle.rules.specs.Numbers.{clearNumber, verticesInRange, triangleTooLarge}
-use Rattle.rules.proofs.Pixels.{Sound, width-le, height-le}
+use Rattle.rules.specs.Numbers.{verticesInRange, triangleTooLarge}
+use Rattle.rules.proofs.Pixels.{width-le, height-le}
 use Rattle.screen.proofs.Accepted.{accepted-clear}
 use Rattle.draw.proofs.Refused.{screen-first, then-triangle}
 use borrow.Author.Needs.{needs}

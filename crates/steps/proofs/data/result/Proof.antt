@@ -6,7 +6,7 @@ use mathlib.Core.List.{List}
 use native.Mathlib.Omega.{arith}
 use denote.Ref.{now}
 use lib.ListN.{getD}
-use Rattle.instructions.specs.Opcodes.{LD, LI, DOT}
+use Rattle.instructions.specs.Opcodes.{LD, DOT}
 use Rattle.instructions.specs.Words.{opcode}
 use Rattle.instructions.specs.Arithmetic.{immediate, dot}
 use Rattle.steps.proofs.ResultLaws.{result-registers, result-LD, result-LI, result-DOT, result-value}

@@ -1,6 +1,6 @@
 -- The clear is accepted, so it fills the screen with the two low halves.
 use Prim.Native.Nat.{ℕ}
-use mathlib.Core.Path.{_≡_, sym, _∙_, ap, ap₂}
+use mathlib.Core.Path.{_≡_, _∙_, ap, ap₂}
 use denote.Ref.{now}
 use Rattle.rules.specs.Calls.{cleared}
 use Rattle.instructions.specs.Arithmetic.{lowHalf}

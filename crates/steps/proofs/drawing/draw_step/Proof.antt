@@ -1,5 +1,5 @@
 -- Where a row applies the step halts, else it is the instruction, and goes on to the next place.
-use mathlib.Core.Path.{_≡_, sym, _∙_, ap, ap₂}
+use mathlib.Core.Path.{sym, _∙_, ap}
 use native.Mathlib.Omega.{arith}
 use denote.Ref.{now}
 use Rattle.instructions.specs.Words.{opcode}

@@ -1,6 +1,6 @@
 -- imm tells a depth from a colour, and the operands are those of the registers.
 use Prim.Native.Nat.{ℕ}
-use mathlib.Core.Path.{_≡_, sym, _∙_, ap, ap₂}
+use mathlib.Core.Path.{sym, _∙_, ap, ap₂}
 use denote.Ref.{now}
 use Rattle.instructions.specs.Words.{imm, inR1, inR2}
 use Rattle.instructions.specs.Tree.{treeDepth, treeColour}

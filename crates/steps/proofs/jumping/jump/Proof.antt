@@ -1,5 +1,4 @@
 -- The place is the definition's next place; CALL alone writes a register.
-use Prim.Native.Nat.{ℕ}
 use mathlib.Core.Path.{sym, _∙_, ap}
 use denote.Ref.{now}
 use Rattle.steps.specs.declared.parts.Cpu.{Cpu}

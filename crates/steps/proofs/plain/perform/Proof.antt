@@ -1,6 +1,5 @@
 -- Each range of the opcode is one function's, whose promise is this one's; ST, READ and WRITE go on to the next place.
-use Prim.Native.Nat.{ℕ}
-use mathlib.Core.Path.{_≡_, sym, _∙_, ap}
+use mathlib.Core.Path.{sym, _∙_, ap}
 use native.Mathlib.Omega.{arith}
 use denote.Ref.{now}
 use Rattle.instructions.specs.Words.{opcode}

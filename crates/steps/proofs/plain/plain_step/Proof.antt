@@ -1,5 +1,5 @@
 -- Up to WRITE the rows of memory are all rows: where one applies the step halts, else it is the instruction.
-use mathlib.Core.Path.{_≡_, sym, _∙_, ap, ap₂}
+use mathlib.Core.Path.{sym, _∙_, ap}
 use denote.Ref.{now}
 use lib.ListN.{length}
 use Rattle.steps.specs.declared.parts.Cpu.{Cpu}
