@@ -14,7 +14,7 @@ use Rattle.rules.specs.Triangles.{Edge, dx, edge1, edge2, edge3, Point, sample,
 use Rattle.cover.specs.declared.Side.{Side}
 use Rattle.cover.specs.declared.Sides.{Sides}
 use Rattle.cover.specs.declared.Values.{Values}
-use Rattle.cover.specs.Side.{slope, sideAt, bestLeaf, worstLeaf, stepsOf, first, second, third, SideOf, SidesOf}
+use Rattle.cover.specs.Side.{slope, sideAt, bestLeaf, worstLeaf, stepsOf, pairsFrom, first, second, third, SideOf, SidesOf}
 use Rattle.cover.specs.Mask.{keeps, allKept, valuesAt, moved, leafInside}
 use Rattle.cover.specs.Pairs.{pairOf, pairsMoved, pairsKept, eachAt, endsAt, firstAt, SidesAt}
 use Rattle.cover.proofs.Along.{EdgeWithin, Middle, edge-within, edges-in-range, and-true, step-right, step-down, keeps-inside, side-middle, misses, fills}
@@ -64,6 +64,13 @@ worst-le a = choose-le (keeps a) (omega arith) (omega arith)
 best-le : (a : ℕ) → bestLeaf a ≤ 15
 best-le a = choose-le (keeps a) (omega arith) (omega arith)
 
+-- the ends of the group that starts at pixel (x, y), and its first leaf with its ninth
+abbrev ends : Side → ℕ → ℕ → ℕ
+ends d x y = pairOf (sideAt d (x + worstLeaf (d .a)) y) (sideAt d (x + bestLeaf (d .a)) y)
+
+abbrev firsts : Side → ℕ → ℕ → ℕ
+firsts d x y = pairOf (sideAt d x y) (sideAt d (x + 8) y)
+
 module _ (e : Edge) (d : Side) (w : EdgeWithin e) (o : SideOf e d) where
   a-small : d .a < 4294967296
   a-small = omega (arith, o .right, mod32-lt (slope e))
@@ -82,42 +89,35 @@ module _ (e : Edge) (d : Side) (w : EdgeWithin e) (o : SideOf e d) where
       (subst Middle (sym el) (side-middle e d w o x′ y′ hx′ hy′)) (subst Middle (sym eh) (side-middle e d w o u′ y′ hu′ hy′))
       ∙ ap₂ pairOf el eh
 
-  -- the ends of the group that starts at pixel (x, y)
-  abbrev ends : ℕ → ℕ → ℕ
-  ends x y = pairOf (sideAt d (x + worstLeaf (d .a)) y) (sideAt d (x + bestLeaf (d .a)) y)
-
-  abbrev firsts : ℕ → ℕ → ℕ
-  firsts x y = pairOf (sideAt d x y) (sideAt d (x + 8) y)
-
   module _ (x y : ℕ) where
-    edge-leaped : x + 31 ≤ 656 → y ≤ 512 → (ends x y + d .leap) % 2 ^ 64 ≡ ends (x + 16) y
+    edge-leaped : x + 31 ≤ 656 → y ≤ 512 → (ends d x y + d .leap) % 2 ^ 64 ≡ ends d (x + 16) y
     edge-leaped hx hy =
         let m = worstLeaf (d .a) in
         let n = bestLeaf (d .a) in
         let i : x + m + 16 ≡ x + 16 + m = omega arith in
         let j : x + n + 16 ≡ x + 16 + n = omega arith in
-        ap (λ (k : ℕ). (ends x y + k) % 2 ^ 64) (o .leaps)
+        ap (λ (k : ℕ). (ends d x y + k) % 2 ^ 64) (o .leaps)
         ∙ moves (x + m) (x + n) (x + m + 16) (x + n + 16) y y (d .a * 16 % 4294967296) (d .a * 16 % 4294967296)
         (omega (arith, worst-le (d .a))) (omega (arith, best-le (d .a))) (omega (arith, worst-le (d .a))) (omega (arith, best-le (d .a))) hy hy
         (omega arith) (omega arith) (step-right d (x + m) 16 y) (step-right d (x + n) 16 y)
         ∙ ap₂ (λ (k l : ℕ). pairOf (sideAt d k y) (sideAt d l y)) i j
 
-    edge-lowered : x + 15 ≤ 656 → y + 1 ≤ 512 → (ends x y + d .down) % 2 ^ 64 ≡ ends x (y + 1)
+    edge-lowered : x + 15 ≤ 656 → y + 1 ≤ 512 → (ends d x y + d .down) % 2 ^ 64 ≡ ends d x (y + 1)
     edge-lowered hx hy =
         let m = worstLeaf (d .a) in
         let n = bestLeaf (d .a) in
-        ap (λ (k : ℕ). (ends x y + k) % 2 ^ 64) (o .downs)
+        ap (λ (k : ℕ). (ends d x y + k) % 2 ^ 64) (o .downs)
         ∙ moves (x + m) (x + n) (x + m) (x + n) y (y + 1) (d .b) (d .b)
         (omega (arith, worst-le (d .a))) (omega (arith, best-le (d .a))) (omega (arith, worst-le (d .a))) (omega (arith, best-le (d .a))) (omega arith) hy
         b-small b-small (step-down d (x + m) y) (step-down d (x + n) y)
 
-    edge-spread : x + 15 ≤ 656 → y ≤ 512 → (ends x y + d .spread) % 2 ^ 64 ≡ firsts x y
-    edge-spread hx hy = ap (λ (k : ℕ). (ends x y + k) % 2 ^ 64) (o .spreads) ∙ go (keeps (d .a)) refl
+    edge-spread : x + 15 ≤ 656 → y ≤ 512 → (ends d x y + d .spread) % 2 ^ 64 ≡ firsts d x y
+    edge-spread hx hy = ap (λ (k : ℕ). (ends d x y + k) % 2 ^ 64) (o .spreads) ∙ go (keeps (d .a)) refl
       where
         go : (b : Bool) → keeps (d .a) ≡ b
             → (pairOf (sideAt d (x + choose b 0 15) y) (sideAt d (x + choose b 15 0) y)
             + choose b (stepsOf 0 (d .a * 4294967289 % 4294967296)) (stepsOf (d .a * 4294967281 % 4294967296) (d .a * 8 % 4294967296))) % 2 ^ 64
-            ≡ firsts x y
+            ≡ firsts d x y
         go true s =
             moves (x + 0) (x + 15) x (x + 8) y y 0 (d .a * 4294967289 % 4294967296) (omega arith) (omega arith) (omega arith) (omega arith) hy hy (omega arith) (omega arith)
             (omega (arith, mul-add (d .a) x 0)) (omega (arith, mul-add (d .a) x 15, mul-add (d .a) x 8))
@@ -125,10 +125,10 @@ module _ (e : Edge) (d : Side) (w : EdgeWithin e) (o : SideOf e d) where
             moves (x + 15) (x + 0) x (x + 8) y y (d .a * 4294967281 % 4294967296) (d .a * 8 % 4294967296) (omega arith) (omega arith) (omega arith) (omega arith) hy hy (omega arith) (omega arith)
             (omega (arith, mul-add (d .a) x 15)) (omega (arith, mul-add (d .a) x 0, mul-add (d .a) x 8))
 
-    edge-stepped : x + 9 ≤ 656 → y ≤ 512 → (firsts x y + d .both) % 2 ^ 64 ≡ firsts (x + 1) y
+    edge-stepped : x + 9 ≤ 656 → y ≤ 512 → (firsts d x y + d .both) % 2 ^ 64 ≡ firsts d (x + 1) y
     edge-stepped hx hy =
         let i : x + 8 + 1 ≡ x + 1 + 8 = omega arith in
-        ap (λ (k : ℕ). (firsts x y + k) % 2 ^ 64) (o .boths)
+        ap (λ (k : ℕ). (firsts d x y + k) % 2 ^ 64) (o .boths)
         ∙ moves x (x + 8) (x + 1) (x + 8 + 1) y y (d .a) (d .a) (omega arith) (omega arith) (omega arith) (omega arith) hy hy a-small a-small (one x) (one (x + 8))
         ∙ ap (λ (k : ℕ). pairOf (sideAt d (x + 1) y) (sideAt d k y)) i
       where
@@ -206,42 +206,33 @@ module _ (t : Triangle) (x y : ℕ) (d : Sides) (g : SidesAt t x y d) where
       (fills (edge2 t) (second d) w2 (g .sides .of2) x y wide (g .row) (b .1) k hk))
       (fills (edge3 t) (third d) w3 (g .sides .of3) x y wide (g .row) (c .1) k hk)
 
-  pub leaped : x + 16 ≤ 640 → pairsMoved (endsAt d x y) (d .leap) ≡ endsAt d (x + 16) y
-  leaped h =
+  -- what holds of a triangle's edge holds of all three
+  by-edge : (f h : Side → ℕ) → ((e : Edge) (s : Side) → EdgeWithin e → SideOf e s → f s ≡ h s)
+      → pairsFrom (f (first d)) (f (second d)) (f (third d)) ≡ pairsFrom (h (first d)) (h (second d)) (h (third d))
+  by-edge f h k =
       λ i.
       record {
-        p = edge-leaped (edge1 t) (first d) w1 (g .sides .of1) x y (omega arith) (g .row) i;
-        q = edge-leaped (edge2 t) (second d) w2 (g .sides .of2) x y (omega arith) (g .row) i;
-        r = edge-leaped (edge3 t) (third d) w3 (g .sides .of3) x y (omega arith) (g .row) i;
+        p = k (edge1 t) (first d) w1 (g .sides .of1) i;
+        q = k (edge2 t) (second d) w2 (g .sides .of2) i;
+        r = k (edge3 t) (third d) w3 (g .sides .of3) i;
       }
+
+  pub leaped : x + 16 ≤ 640 → pairsMoved (endsAt d x y) (d .leap) ≡ endsAt d (x + 16) y
+  leaped h =
+      by-edge (λ s. (ends s x y + s .leap) % 2 ^ 64) (λ s. ends s (x + 16) y) (λ e s w o. edge-leaped e s w o x y (omega arith) (g .row))
 
   pub lowered : y + 1 ≤ 512 → pairsMoved (endsAt d x y) (d .down) ≡ endsAt d x (y + 1)
   lowered h =
-      λ i.
-      record {
-        p = edge-lowered (edge1 t) (first d) w1 (g .sides .of1) x y wide h i;
-        q = edge-lowered (edge2 t) (second d) w2 (g .sides .of2) x y wide h i;
-        r = edge-lowered (edge3 t) (third d) w3 (g .sides .of3) x y wide h i;
-      }
+      by-edge (λ s. (ends s x y + s .down) % 2 ^ 64) (λ s. ends s x (y + 1)) (λ e s w o. edge-lowered e s w o x y wide h)
 
   pub spread-out : pairsMoved (endsAt d x y) (d .spread) ≡ firstAt d x y
   spread-out =
-      λ i.
-      record {
-        p = edge-spread (edge1 t) (first d) w1 (g .sides .of1) x y wide (g .row) i;
-        q = edge-spread (edge2 t) (second d) w2 (g .sides .of2) x y wide (g .row) i;
-        r = edge-spread (edge3 t) (third d) w3 (g .sides .of3) x y wide (g .row) i;
-      }
+      by-edge (λ s. (ends s x y + s .spread) % 2 ^ 64) (λ s. firsts s x y) (λ e s w o. edge-spread e s w o x y wide (g .row))
 
   pub stepped : (k : ℕ) → k < 8 → pairsMoved (firstAt d (x + k) y) (d .both) ≡ firstAt d (x + k + 1) y
   stepped k h =
       let c : x + k + 9 ≤ 656 = omega (arith, g .column) in
-      λ i.
-      record {
-        p = edge-stepped (edge1 t) (first d) w1 (g .sides .of1) (x + k) y c (g .row) i;
-        q = edge-stepped (edge2 t) (second d) w2 (g .sides .of2) (x + k) y c (g .row) i;
-        r = edge-stepped (edge3 t) (third d) w3 (g .sides .of3) (x + k) y c (g .row) i;
-      }
+      by-edge (λ s. (firsts s (x + k) y + s .both) % 2 ^ 64) (λ s. firsts s (x + k + 1) y) (λ e s w o. edge-stepped e s w o (x + k) y c (g .row))
 
 -- ---- from the first leaf's values to the ends
 
