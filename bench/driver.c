@@ -44,8 +44,8 @@ const struct named workloads[] = {
     {"middle", "1,000-pixel triangles"},
     {"full", "full-screen triangles"},
     {"slivers", "slivers 600 long, 1 high"},
-    {"small_any", "50-pixel triangles of any shape"},
-    {"middle_any", "1,000-pixel triangles of any shape"},
+    {"small_stout", "50-pixel triangles, not thin"},
+    {"middle_stout", "1,000-pixel triangles, not thin"},
     {"clear", "clear"},
     {"on16x16", "one 50-pixel triangle on 16 by 16"},
     {"on64x64", "one 50-pixel triangle on 64 by 64"},
@@ -94,7 +94,7 @@ static void add(int32_t x1, int32_t y1, int32_t x2, int32_t y2, int32_t x3, int3
 
 /* Triangles of about this many pixels that are not thin: the box has at most
  * four times the triangle's pixels. */
-static void add_of_area(int32_t pixels)
+static void add_stout(int32_t pixels)
 {
     int32_t reach = (int32_t)(8 * sqrt(4.0 * pixels));
     for (;;) {
@@ -117,7 +117,7 @@ static void add_of_area(int32_t pixels)
 }
 
 /* Triangles of this many pixels and of any shape: three points of a square,
- * scaled. Most are thin. */
+ * scaled. */
 static void add_of_any_shape(int32_t pixels)
 {
     enum { SIDE = 1 << 20 };
@@ -159,16 +159,16 @@ void prepare(const char *name)
     set_screen(WIDTH, HEIGHT);
     if (!strcmp(name, "small")) {
         for (int k = 0; k < 2000; k++)
-            add_of_area(50);
+            add_of_any_shape(50);
     } else if (!strcmp(name, "middle")) {
         for (int k = 0; k < 200; k++)
-            add_of_area(1000);
-    } else if (!strcmp(name, "small_any")) {
-        for (int k = 0; k < 2000; k++)
-            add_of_any_shape(50);
-    } else if (!strcmp(name, "middle_any")) {
-        for (int k = 0; k < 200; k++)
             add_of_any_shape(1000);
+    } else if (!strcmp(name, "small_stout")) {
+        for (int k = 0; k < 2000; k++)
+            add_stout(50);
+    } else if (!strcmp(name, "middle_stout")) {
+        for (int k = 0; k < 200; k++)
+            add_stout(1000);
     } else if (!strcmp(name, "full")) {
         /* The two halves of the screen, both ways of cutting it. */
         int32_t r = 8 * WIDTH, b = 8 * HEIGHT;

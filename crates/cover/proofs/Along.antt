@@ -1,30 +1,24 @@
 -- Laws of one edge along the pixels: its lowered value is an affine function of the pixel, stays within 32 bits, is not negative exactly inside,
--- and rises or falls along a row; so the ends of a stretch speak for all of it. Everything is said once over the edge.
-use Prim.Native.Nat.{ℕ, zero, suc, _+_, _*_, _-_, _%_, _≤_, _<_}
-use mathlib.Core.Path.{_≡_, refl, sym, _∙_, ap}
+-- and rises or falls along a row. Everything is said once over the edge.
+use Prim.Native.Nat.{ℕ, zero, suc, _+_, _*_, _-_, _≤_, _<_}
+use mathlib.Core.Path.{_≡_, refl, _∙_, ap}
 use mathlib.Core.List.{List, [], _∷_}
 use mathlib.Core.Bool.{Bool, true, false, _&&_, _||_}
-use native.Mathlib.Nat.{mul-add, mul-one}
 use native.Mathlib.Omega.{arith}
 use lib.IntN.{ℤ, pos, negsuc, _+ℤ_, _-ℤ_, _*ℤ_}
-use lib.Signed.{mag, nonNeg, leZ, _≤ℤ_, _<ℤ_}
+use lib.Signed.{nonNeg, leZ, ltZ, _≤ℤ_, _<ℤ_}
 use mir.Syntax.{w32}
 use mir.Val.{toZ, ofZ}
 use mir.ValLaws.{toZ-ofZ}
 use borrow.Author.Tests.{lt-ltb, le-ltb}
-use Rattle.ints.specs.Modulo.{mod32}
-use Rattle.ints.proofs.Modulo.{mod32-sign, mod32-affine, mod32-middle}
 use Rattle.ints.proofs.Poly.{Exp, var, con, _⊕_, _⊖_, _⊗_, solve}
-use Rattle.ints.proofs.Order.{leZ-true, nonNeg-true, nonNeg-false, le-nonNeg, lt-nonNeg, ≤ℤ-trans, ≤ℤ-<ℤ-trans, le-of, le-to, lt-to, mul-nonneg, pos-le}
-use Rattle.ints.proofs.Bounds.{Within, within-pos, within-range, within-lit, within-sub, within-mul, within-mag, within-31, fits-32}
+use Rattle.ints.proofs.Order.{leZ-true, ltZ-true, ltZ-false, nonNeg-true, nonNeg-false, le-of, le-to, lt-to, mul-nonneg, pos-le}
+use Rattle.ints.proofs.Bounds.{Within, within-pos, within-range, within-lit, within-sub, within-mul, fits-32}
 use Rattle.rules.specs.Turns.{choose}
-use Rattle.rules.specs.Triangles.{Edge, dx, edge1, edge2, edge3, edgeValue, sampleOffset, sample, keepsZero, inside, positive, isZero}
+use Rattle.rules.specs.Triangles.{Edge, dx, edge1, edge2, edge3, edgeValue, sampleOffset, sample, keepsZero, inside, positive, isZero, negative}
 use Rattle.rules.specs.Numbers.{vertexInRange, verticesInRange}
 use Rattle.rules.specs.declared.Triangle.{Triangle}
-use Rattle.cover.specs.Side.{sided, slope, sideAt, bestLeaf, worstLeaf, sideFrom, SideOf, edgeFrom, edgeInRange}
-use Rattle.cover.specs.Mask.{keeps}
-use Rattle.cover.specs.Pairs.{raised}
-use Rattle.cover.specs.declared.Side.{Side}
+use Rattle.cover.specs.Side.{sided, slope, edgeFrom, edgeInRange}
 
 -- ---- inside is "not negative"
 
@@ -40,6 +34,23 @@ pub inside-sided : (e : Edge) (x y : ℕ) → inside e (sample x y) ≡ nonNeg (
 unfolding inside sided
 inside-sided e x y = lowered (edgeValue e (sample x y)) (keepsZero e)
 
+-- ---- signs as the tests read them
+
+pub above : (z : ℤ) → ltZ (pos 0) z ≡ positive z
+above (pos zero) = refl
+above (pos (suc n)) = lt-ltb 0 (suc n) (omega arith)
+above (negsuc n) = refl
+
+pub below : (z : ℤ) → ltZ z (pos 0) ≡ negative z
+below (pos n) = le-ltb n 0 (omega arith)
+below (negsuc n) = refl
+
+pub positive-true : (z : ℤ) → positive z ≡ true → pos 0 <ℤ z
+positive-true z h = ltZ-true (pos 0) z (above z ∙ h)
+
+pub positive-false : (z : ℤ) → positive z ≡ false → z ≤ℤ pos 0
+positive-false z h = ltZ-false (pos 0) z (above z ∙ h)
+
 -- ---- an affine function of the pixel
 
 abbrev edgeE : Exp → Exp → Exp
@@ -51,19 +62,19 @@ sampleE x = con (pos 8) ⊗ x ⊕ con (pos sampleOffset)
 abbrev slopeE : Exp
 slopeE = con (pos 0) ⊖ con (pos 8) ⊗ (var 3 ⊖ var 1)
 
-pub sided-affine : (e : Edge) (x y : ℕ) → sided e x y ≡ sided e 0 0 +ℤ slope e *ℤ pos x +ℤ (pos 8 *ℤ dx e) *ℤ pos y
-unfolding sided sample edgeValue
-sided-affine e x y =
-    solve (e .x1 ∷ e .y1 ∷ e .x2 ∷ e .y2 ∷ pos x ∷ pos y ∷ choose (keepsZero e) (pos 0) (pos 1) ∷ [])
-    (edgeE (sampleE (var 4)) (sampleE (var 5)) ⊖ var 6)
-    (edgeE (sampleE (con (pos 0))) (sampleE (con (pos 0))) ⊖ var 6 ⊕ slopeE ⊗ var 4 ⊕ con (pos 8) ⊗ (var 2 ⊖ var 0) ⊗ var 5) tt
-
 pub sided-right : (e : Edge) (x k y : ℕ) → sided e (x + k) y ≡ sided e x y +ℤ slope e *ℤ pos k
 unfolding sided sample edgeValue
 sided-right e x k y =
     solve (e .x1 ∷ e .y1 ∷ e .x2 ∷ e .y2 ∷ pos x ∷ pos y ∷ choose (keepsZero e) (pos 0) (pos 1) ∷ pos k ∷ [])
     (edgeE (sampleE (var 4 ⊕ var 7)) (sampleE (var 5)) ⊖ var 6)
     (edgeE (sampleE (var 4)) (sampleE (var 5)) ⊖ var 6 ⊕ slopeE ⊗ var 7) tt
+
+pub sided-down : (e : Edge) (x y : ℕ) → sided e x (y + 1) ≡ sided e x y +ℤ pos 8 *ℤ dx e
+unfolding sided sample edgeValue
+sided-down e x y =
+    solve (e .x1 ∷ e .y1 ∷ e .x2 ∷ e .y2 ∷ pos x ∷ pos y ∷ choose (keepsZero e) (pos 0) (pos 1) ∷ [])
+    (edgeE (sampleE (var 4)) (sampleE (var 5 ⊕ con (pos 1))) ⊖ var 6)
+    (edgeE (sampleE (var 4)) (sampleE (var 5)) ⊖ var 6 ⊕ con (pos 8) ⊗ (var 2 ⊖ var 0)) tt
 
 -- ---- within 32 bits
 
@@ -107,22 +118,9 @@ module _ (e : Edge) (w : EdgeWithin e) where
       (within-mul (within-sub (within-pos {n = 4103} (omega arith)) (w .in-y1)) (within-sub (w .in-x2) (w .in-x1)))
       (within-mul (within-sub (within-pos {n = 5255} (omega arith)) (w .in-x1)) (within-sub (w .in-y2) (w .in-y1)))
 
-  sided-near : (x y : ℕ) → x ≤ 656 → y ≤ 512 → mag (sided e x y) < 536870912
+  pub sided-within : (x y : ℕ) → x ≤ 656 → y ≤ 512 → Within 421756929 (sided e x y)
   unfolding sided
-  sided-near x y hx hy =
-      within-mag (within-sub (value-within x y hx hy) (loss-within (keepsZero e))) (omega arith)
-
-  pub sided-small : (x y : ℕ) → x ≤ 656 → y ≤ 512 → mag (sided e x y) < 2147483648
-  sided-small x y hx hy = omega (arith, sided-near x y hx hy)
-
-  pub slope-small : mag (slope e) < 2147483648
-  slope-small =
-      within-31 (within-sub (within-lit {n = 0} {z = pos 0} tt) (within-mul (within-lit {n = 8} {z = pos 8} tt) (within-sub (w .in-y2) (w .in-y1)))) (omega arith)
-
--- a word that is near the middle of 32 bits when it is raised
-pub record Middle (n : ℕ) : Type 0 where
-  pub least : 1610612736 ≤ raised n
-  pub most : raised n ≤ 2684354560
+  sided-within x y hx hy = within-sub (value-within x y hx hy) (loss-within (keepsZero e))
 
 -- ---- rising and falling
 
@@ -142,96 +140,6 @@ module _ (e : Edge) (x k y : ℕ) where
       rw (sided-right e x k y)
       (le-of ρ (var 0 ⊕ var 1 ⊗ var 2) (var 0)
       (omega (arith, le-to ρ (con (pos 0)) ((con (pos 0) ⊖ var 1) ⊗ var 2) (mul-nonneg n (pos-le (omega arith))))))
-
--- ---- what a side holds
-
-pub side-of : (e : Edge) (c a b : ℕ) → c ≡ mod32 (sided e 0 0) → a ≡ mod32 (slope e) → b ≡ mod32 (pos 8 *ℤ dx e) → SideOf e (sideFrom c a b)
-side-of e c a b hc ha hb =
-    record {
-      here = λ x y.
-          rw (hc, ha, hb)
-          (sym (mod32-affine (sided e 0 0) (slope e) (pos 8 *ℤ dx e) x y) ∙ ap mod32 (sym (sided-affine e x y)));
-      right = ha;
-      below = hb;
-      reaches = refl;
-      falls = refl;
-      leaps = refl;
-      downs = refl;
-      spreads = refl;
-      boths = refl;
-    }
-
-pub step-down : (d : Side) (x y : ℕ) → (sideAt d x y + d .b) % 4294967296 ≡ sideAt d x (y + 1)
-step-down d x y = omega (arith, mul-add (d .b) y 1, mul-one (d .b))
-
-pub step-right : (d : Side) (x k y : ℕ) → (sideAt d x y + d .a * k % 4294967296) % 4294967296 ≡ sideAt d (x + k) y
-step-right d x k y = omega (arith, mul-add (d .a) x k)
-
-module _ (e : Edge) (d : Side) (w : EdgeWithin e) (o : SideOf e d) where
-  -- the sign of the value is the pixel's side
-  pub keeps-inside : (x y : ℕ) → x ≤ 656 → y ≤ 512 → keeps (sideAt d x y) ≡ inside e (sample x y)
-  keeps-inside x y hx hy =
-      ap keeps (o .here x y) ∙ mod32-sign (sided e x y) (sided-small e w x y hx hy) ∙ sym (inside-sided e x y)
-
-  pub keeps-slope : keeps (d .a) ≡ nonNeg (slope e)
-  keeps-slope = ap keeps (o .right) ∙ mod32-sign (slope e) (slope-small e w)
-
-  keeps-sided : (x y : ℕ) → x ≤ 656 → y ≤ 512 → keeps (sideAt d x y) ≡ nonNeg (sided e x y)
-  keeps-sided x y hx hy = keeps-inside x y hx hy ∙ inside-sided e x y
-
-  -- raised by 2^31, it is near the middle of 32 bits
-  pub side-middle : (x y : ℕ) → x ≤ 656 → y ≤ 512 → Middle (sideAt d x y)
-  side-middle x y hx hy =
-      let m = mod32-middle (sided e x y) (sided-near e w x y hx hy) in
-      rw (o .here x y) (record { least = m .0; most = m .1 })
-
-  outside : (x k y : ℕ) → sided e (x + k) y <ℤ pos 0 → inside e (sample (x + k) y) ≡ false
-  outside x k y h = inside-sided e (x + k) y ∙ lt-nonNeg (sided e (x + k) y) h
-
-  within : (x k y : ℕ) → pos 0 ≤ℤ sided e (x + k) y → inside e (sample (x + k) y) ≡ true
-  within x k y h = inside-sided e (x + k) y ∙ le-nonNeg (sided e (x + k) y) h
-
-  -- the group that starts at pixel (x, y)
-  module _ (x y : ℕ) (hx : x + 15 ≤ 656) (hy : y ≤ 512) where
-    best : (b : Bool) → keeps (d .a) ≡ b → keeps (sideAt d (x + bestLeaf (d .a)) y) ≡ nonNeg (sided e (x + choose b 15 0) y)
-    best true s = rw s (keeps-sided (x + 15) y hx hy)
-    best false s = rw s (keeps-sided (x + 0) y (omega arith) hy)
-
-    worst : (b : Bool) → keeps (d .a) ≡ b → keeps (sideAt d (x + worstLeaf (d .a)) y) ≡ nonNeg (sided e (x + choose b 0 15) y)
-    worst true s = rw s (keeps-sided (x + 0) y (omega arith) hy)
-    worst false s = rw s (keeps-sided (x + 15) y hx hy)
-
-    -- where the edge misses its best leaf, it misses all
-    pub misses : keeps (sideAt d (x + bestLeaf (d .a)) y) ≡ false → (k : ℕ) → k ≤ 15 → inside e (sample (x + k) y) ≡ false
-    misses h k hk = go (keeps (d .a)) refl
-      where
-        go : (b : Bool) → keeps (d .a) ≡ b → inside e (sample (x + k) y) ≡ false
-        go true s =
-            let z : nonNeg (sided e (x + 15) y) ≡ false = sym (best true s) ∙ h in
-            let r : sided e (x + k) y ≤ℤ sided e (x + k + (15 - k)) y = rises e (x + k) (15 - k) y (sym keeps-slope ∙ s) in
-            let i : x + k + (15 - k) ≡ x + 15 = omega arith in
-            outside x k y (≤ℤ-<ℤ-trans (rw i at r) (nonNeg-false (sided e (x + 15) y) z))
-        go false s =
-            let z : nonNeg (sided e (x + 0) y) ≡ false = sym (best false s) ∙ h in
-            let r : sided e (x + 0 + k) y ≤ℤ sided e (x + 0) y = falls e (x + 0) k y (sym keeps-slope ∙ s) in
-            let i : x + 0 + k ≡ x + k = omega arith in
-            outside x k y (≤ℤ-<ℤ-trans (rw i at r) (nonNeg-false (sided e (x + 0) y) z))
-
-    -- where its worst leaf is inside the edge, all are
-    pub fills : keeps (sideAt d (x + worstLeaf (d .a)) y) ≡ true → (k : ℕ) → k ≤ 15 → inside e (sample (x + k) y) ≡ true
-    fills h k hk = go (keeps (d .a)) refl
-      where
-        go : (b : Bool) → keeps (d .a) ≡ b → inside e (sample (x + k) y) ≡ true
-        go true s =
-            let z : nonNeg (sided e (x + 0) y) ≡ true = sym (worst true s) ∙ h in
-            let r : sided e (x + 0) y ≤ℤ sided e (x + 0 + k) y = rises e (x + 0) k y (sym keeps-slope ∙ s) in
-            let i : x + 0 + k ≡ x + k = omega arith in
-            within x k y (≤ℤ-trans (nonNeg-true (sided e (x + 0) y) z) (rw i at r))
-        go false s =
-            let z : nonNeg (sided e (x + 15) y) ≡ true = sym (worst false s) ∙ h in
-            let r : sided e (x + k + (15 - k)) y ≤ℤ sided e (x + k) y = falls e (x + k) (15 - k) y (sym keeps-slope ∙ s) in
-            let i : x + k + (15 - k) ≡ x + 15 = omega arith in
-            within x k y (≤ℤ-trans (nonNeg-true (sided e (x + 15) y) z) (rw i at r))
 
 -- ---- the three edges of a triangle whose vertices are in range
 

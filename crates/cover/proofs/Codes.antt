@@ -1,15 +1,18 @@
 -- An edge's differences and its value as the machine computes them, in 64 bits, from vertices in range.
 use Prim.Native.Nat.{ℕ, _≤_}
 use mathlib.Core.Path.{_≡_, sym, _∙_, ap, subst}
-use mathlib.Core.Bool.{true}
+use mathlib.Core.Bool.{Bool, true}
 use native.Mathlib.Omega.{arith}
-use lib.IntN.{ℤ}
+use lib.IntN.{ℤ, pos}
+use lib.Signed.{ltZ}
 use mir.Syntax.{w32, w64}
+use mir.Val.{SFits, toZ, ofZ}
+use mir.ValLaws.{toZ-ofZ}
 use Rattle.ints.proofs.Bounds.{Within}
 use Rattle.ints.proofs.Machine.{got-in, got-lit, Code, known, cast, _⊟_, _⊠_}
-use Rattle.rules.specs.Triangles.{Point, Edge, sampleOffset, sample, edgeValue}
+use Rattle.rules.specs.Triangles.{Point, Edge, sampleOffset, sample, edgeValue, positive, negative}
 use Rattle.cover.specs.Side.{edgeInRange}
-use Rattle.cover.proofs.Along.{EdgeWithin, value-within, read, read-edge}
+use Rattle.cover.proofs.Along.{EdgeWithin, value-within, read, read-edge, above, below}
 
 abbrev pub zeroC : Code w64
 zeroC = known (got-lit w64 0 tt)
@@ -39,9 +42,6 @@ module _ (e : Edge) (w : EdgeWithin e) where
   abbrev pub dyC : Code w64
   dyC = y2C ⊟ y1C
 
-  abbrev pub slopeC : Code w64
-  slopeC = zeroC ⊟ eightC ⊠ dyC
-
   -- at the sample point (px, py)
   module _ (px py : Code w64) where
     abbrev pub leftC : Code w64
@@ -60,3 +60,10 @@ answeredC e w x y hx hy z h = known (got-in {b = 421756928} (subst (Within 42175
 -- of the edge that it reads
 pub answered : (e : Edge) (p : Point) {z : ℤ} → edgeInRange e ≡ true → z ≡ edgeValue (read e) p → z ≡ edgeValue e p
 answered e p r h = h ∙ ap (λ (k : Edge). edgeValue k p) (read-edge e r)
+
+-- one test of a machine number against 0, each way
+pub read-above : (z : ℤ) {b : Bool} → SFits w64 z → ltZ (pos 0) (toZ w64 (ofZ w64 z)) ≡ b → positive z ≡ b
+read-above z f h = sym (above z) ∙ ap (ltZ (pos 0)) (sym (toZ-ofZ w64 z f)) ∙ h
+
+pub read-below : (z : ℤ) {b : Bool} → SFits w64 z → ltZ (toZ w64 (ofZ w64 z)) (pos 0) ≡ b → negative z ≡ b
+read-below z f h = sym (below z) ∙ ap (λ (k : ℤ). ltZ k (pos 0)) (sym (toZ-ofZ w64 z f)) ∙ h

@@ -1,10 +1,11 @@
 -- The laws behind the functions' proofs.
+pub mod Quotients
+pub mod Columns
 pub mod Mask
 pub mod Along
+pub mod Turning
+pub mod Meeting
 pub mod Codes
-pub mod Words
-pub mod Leaves
-pub mod Halves
 pub mod Outside
 pub mod Raised
 pub mod Large

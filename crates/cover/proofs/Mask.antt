@@ -1,23 +1,19 @@
--- Laws of masks: one more leaf doubles, sixteen leaves fit 16 bits, the ones of a mask are the leaves it names, and equal leaves give equal masks.
-use Prim.Native.Nat.{ℕ, zero, suc, _+_, _*_, _^_, _≤_, _<_}
-use mathlib.Core.Path.{_≡_, refl, _∙_, ap}
-use mathlib.Core.Bool.{Bool, true, false}
-use native.Mathlib.Numerals.{add-one}
-use native.Mathlib.Nat.{add-zero, add-suc, mul-assoc, pow-suc}
+-- Laws of masks: sixteen leaves fit 16 bits, the ones of a mask are the leaves it names, equal leaves give equal masks, and
+-- the mask of a run is the difference of two powers of two.
+use Prim.Native.Nat.{ℕ, zero, suc, _+_, _*_, _-_, _/_, _^_, _≤_, _<_}
+use mathlib.Core.Path.{_≡_, refl, sym, _∙_, ap, ap₂}
+use mathlib.Core.Bool.{Bool, true, false, not, _&&_, Bool·not-not}
+use native.Mathlib.Nat.{pow-suc}
 use native.Mathlib.Omega.{arith}
+use lib.Dec.{ltb, leb}
 use lib.Count.{ones, onesIn, ones-cat}
-use lib.Pow.{pow-mono}
+use lib.Pow.{pow-mono, pow-add, shl-shr}
+use borrow.Author.Tests.{ltb-true, ltb-false, leb-true, leb-false}
 use Rattle.rules.specs.Turns.{bit, howMany}
-use Rattle.rules.proofs.Choices.{bit-le}
+use Rattle.rules.proofs.Choices.{bit-le, not-leb}
 use Rattle.cover.specs.Mask.{maskOf}
-
-pub bit-zero : (b : Bool) → bit b ≡ 0 → b ≡ false
-bit-zero true h = absurd (omega arith)
-bit-zero false h = refl
-
-pub bit-one : (b : Bool) → bit b ≡ 1 → b ≡ true
-bit-one true h = refl
-bit-one false h = absurd (omega arith)
+use Rattle.cover.specs.Runs.{inRun, LeavesBefore}
+use Rattle.cover.proofs.Columns.{run-empty}
 
 one : (b : Bool) → ones (bit b) ≡ bit b
 unfolding ones onesIn
@@ -25,23 +21,6 @@ one true = refl
 one false = refl
 
 module _ (f : ℕ → Bool) where
-  pub mask-more : (k : ℕ) → maskOf f (k + 1) ≡ maskOf f k * 2 + bit (f k)
-  unfolding maskOf
-  mask-more k = rw add-one
-
-  -- the leaves in two parts
-  pub mask-cat : (k n : ℕ) → maskOf f (k + n) ≡ maskOf f k * 2 ^ n + maskOf (λ i. f (k + i)) n
-  unfolding maskOf
-  mask-cat k zero = rw add-zero (omega arith)
-  mask-cat k (suc n) =
-      let e : maskOf f (k + suc n) ≡ maskOf f (k + n) * 2 + bit (f (k + n)) = rw (add-suc k n) in
-      let p : 2 ^ suc n ≡ 2 ^ n * 2 = pow-suc 2 n in
-      omega (arith, mask-cat k n, mul-assoc (maskOf f k) (2 ^ n) 2, ap (λ (q : ℕ). maskOf f k * q) p)
-
-  pub mask-none : maskOf f 0 ≡ 0
-  unfolding maskOf
-  mask-none = refl
-
   pub mask-lt : (k : ℕ) → maskOf f k < 2 ^ k
   unfolding maskOf
   mask-lt zero = omega arith
@@ -74,11 +53,58 @@ module _ (f : ℕ → Bool) where
   mask-empty zero h = refl
   mask-empty (suc k) h = rw (mask-empty k (λ i l. h i (omega arith)), h k (omega arith))
 
-  pub mask-full : (k : ℕ) → ((i : ℕ) → i < k → f i ≡ true) → maskOf f k + 1 ≡ 2 ^ k
-  unfolding maskOf
-  mask-full zero h = refl
-  mask-full (suc k) h =
-      let e : maskOf f k + 1 ≡ 2 ^ k = mask-full k (λ i l. h i (omega arith)) in
-      let b : bit (f k) ≡ 1 = ap bit (h k (omega arith)) in
-      let p : 2 ^ suc k ≡ 2 ^ k * 2 = pow-suc 2 k in
-      omega arith
+-- 2 ^ (n - k) counts the leaves from k on of n: one more doubles it once k is reached, and before that it is 1
+from-on : (n k : ℕ) → k ≤ n → 2 ^ (suc n - k) ≡ 2 ^ (n - k) * 2
+from-on n k h =
+    let e : suc n - k ≡ suc (n - k) = omega arith in
+    ap (λ (i : ℕ). 2 ^ i) e ∙ pow-suc 2 (n - k)
+
+not-yet : (n k : ℕ) → n ≤ k → 2 ^ (n - k) ≡ 1
+not-yet n k h =
+    let e : n - k ≡ 0 = omega arith in
+    ap (λ (i : ℕ). 2 ^ i) e
+
+run-more : (lo hi n m : ℕ) → lo ≤ hi → (a b : Bool) → leb lo n ≡ a → ltb n hi ≡ b → m + 2 ^ (n - hi) ≡ 2 ^ (n - lo)
+    → (m * 2 + bit (a && b)) + 2 ^ (suc n - hi) ≡ 2 ^ (suc n - lo)
+run-more lo hi n m o true true p q h =
+    let l = leb-true lo n p in
+    let g = ltb-true n hi q in
+    omega (arith, not-yet n hi (omega arith), not-yet (suc n) hi (omega arith), from-on n lo l)
+run-more lo hi n m o true false p q h =
+    let l = leb-true lo n p in
+    let g = ltb-false n hi q in
+    omega (arith, from-on n hi g, from-on n lo l)
+run-more lo hi n m o false true p q h =
+    let l = leb-false lo n p in
+    omega (arith, not-yet n lo (omega arith), not-yet (suc n) lo (omega arith), not-yet n hi (omega arith), not-yet (suc n) hi (omega arith))
+run-more lo hi n m o false false p q h = absurd (omega (arith, leb-false lo n p, ltb-false n hi q))
+
+-- the leaves from lo on, less those from hi on
+pub mask-run : (lo hi n : ℕ) → lo ≤ hi → maskOf (inRun lo hi) n + 2 ^ (n - hi) ≡ 2 ^ (n - lo)
+unfolding maskOf
+mask-run lo hi zero o = omega (arith, not-yet 0 hi (omega arith), not-yet 0 lo (omega arith))
+mask-run lo hi (suc n) o = run-more lo hi n (maskOf (inRun lo hi) n) o (leb lo n) (ltb n hi) refl refl (mask-run lo hi n o)
+
+-- 2^16 shifted past the leaves before k has those from k on
+shifted : (k : ℕ) → k ≤ 16 → 65536 / 2 ^ k ≡ 2 ^ (16 - k)
+shifted k h =
+    let e : (16 - k) + k ≡ 16 = omega arith in
+    let p : 65536 ≡ 2 ^ (16 - k) * 2 ^ k = sym (ap (λ (i : ℕ). 2 ^ i) e) ∙ pow-add 2 (16 - k) k in
+    ap (λ (i : ℕ). i / 2 ^ k) p ∙ shl-shr (2 ^ (16 - k)) k
+
+leb-not : (a b : ℕ) → leb a b ≡ not (ltb b a)
+leb-not a b = sym (Bool·not-not (leb a b)) ∙ ap not (not-leb a b)
+
+-- the run in a group, by the leaves before its two ends
+module _ {x from to first past : ℕ} (f : LeavesBefore x from first) (p : LeavesBefore x to past) where
+  pub mask-part : maskOf (λ k. inRun from to (x + k)) 16 ≡ maskOf (inRun first past) 16
+  mask-part =
+      mask-same (λ k. inRun from to (x + k)) (inRun first past) 16
+      (λ k h. ap₂ _&&_ (leb-not from (x + k) ∙ ap not (sym (f .these k h)) ∙ sym (leb-not first k)) (sym (p .these k h)))
+
+  pub part-empty : past ≤ first → maskOf (λ k. inRun from to (x + k)) 16 ≡ 0
+  part-empty o = mask-part ∙ mask-empty (inRun first past) 16 (λ k h. run-empty first past k o)
+
+  -- 2^16 shifted by the leaves before an end has the leaves from it on
+  pub part-some : first ≤ past → maskOf (λ k. inRun from to (x + k)) 16 + 65536 / 2 ^ past ≡ 65536 / 2 ^ first
+  part-some o = omega (arith, mask-part, mask-run first past 16 o, shifted first (f .few), shifted past (p .few))

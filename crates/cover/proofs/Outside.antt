@@ -1,4 +1,4 @@
--- A pixel that lies left of all three vertices, or right of, above or below all of them, is not inside all three edges: the edge values would be
+-- A pixel that lies above all three vertices, or below all of them, is not inside all three edges: the edge values would be
 -- non-negative weights whose sum with three positive distances is 0, so all are 0, and no three edges that close keep their zeros.
 use Prim.Native.Nat.{ℕ, zero, suc, _+_, _*_, _≤_, _<_}
 use mathlib.Core.Path.{_≡_, refl, subst}
@@ -86,7 +86,7 @@ module _ (t : Triangle) where
         go true h = absurd (unweighed h)
         go false h = refl
 
--- ---- the four sides
+-- ---- the two sides
 
 abbrev edgeE : Exp → Exp → Exp → Exp → Exp
 edgeE a b c d = (var 7 ⊖ b) ⊗ (c ⊖ a) ⊖ (var 6 ⊖ a) ⊗ (d ⊖ b)
@@ -104,18 +104,6 @@ module _ (t : Triangle) (p : Point) where
   apart : {a b : ℤ} → a <ℤ b → pos 0 <ℤ (b -ℤ a)
   apart {a} {b} h =
       lt-of (a ∷ b ∷ []) (con (pos 0)) (var 1 ⊖ var 0) (omega (arith, lt-to (a ∷ b ∷ []) (var 0) (var 1) h))
-
-  pub left-of : p .px <ℤ t .x1 → p .px <ℤ t .x2 → p .px <ℤ t .x3 → insideAll t p ≡ false
-  unfolding edgeValue
-  left-of h1 h2 h3 =
-      refused t p (t .x1 -ℤ p .px) (t .x2 -ℤ p .px) (t .x3 -ℤ p .px) (apart h1) (apart h2) (apart h3)
-      (solve ρ₈ (weighed (var 0 ⊖ var 6) (var 2 ⊖ var 6) (var 4 ⊖ var 6)) (con (pos 0)) tt)
-
-  pub right-of : t .x1 <ℤ p .px → t .x2 <ℤ p .px → t .x3 <ℤ p .px → insideAll t p ≡ false
-  unfolding edgeValue
-  right-of h1 h2 h3 =
-      refused t p (p .px -ℤ t .x1) (p .px -ℤ t .x2) (p .px -ℤ t .x3) (apart h1) (apart h2) (apart h3)
-      (solve ρ₈ (weighed (var 6 ⊖ var 0) (var 6 ⊖ var 2) (var 6 ⊖ var 4)) (con (pos 0)) tt)
 
   pub above : p .py <ℤ t .y1 → p .py <ℤ t .y2 → p .py <ℤ t .y3 → insideAll t p ≡ false
   unfolding edgeValue

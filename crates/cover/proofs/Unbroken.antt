@@ -56,14 +56,3 @@ unbroken t s a b c y h k p q =
     let o = and-true {a = ltb c (width (s .size))} (q3 .0) in
     let w : b < width (s .size) = omega (arith, ltb-true c (width (s .size)) (o .0)) in
     rw (lt-ltb b (width (s .size)) w, o .1, inside-between t a b c y h k (p3 .1) (q3 .1))
-
--- past the end of the run
-pub past-run : (t : Triangle) (s : Screen) (a b c y : ℕ) → a ≤ b → b ≤ c
-    → covered t s a y ≡ true
-    → covered t s b y ≡ false
-    → covered t s c y ≡ false
-past-run t s a b c y h k p q = go (covered t s c y) refl
-  where
-    go : (r : Bool) → covered t s c y ≡ r → r ≡ false
-    go true e = sym (unbroken t s a b c y h k p e) ∙ q
-    go false e = refl

@@ -1,5 +1,6 @@
--- The vocabulary of this crate's contracts: what a side holds, and which leaves a mask names.
+-- The vocabulary of this crate's contracts: numbers parted by a divisor, what a side and a mark hold, a row's run, and which leaves a mask names.
+pub mod Parts
 pub mod Side
+pub mod Runs
 pub mod Mask
 pub mod Extent
-pub mod Pairs

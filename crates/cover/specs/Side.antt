@@ -1,18 +1,18 @@
--- What a side holds: the value of an edge along the pixels as it steps modulo 2^32, less 1 where the edge's zeros are outside.
-use Prim.Native.Nat.{ℕ, _+_, _*_, _%_}
+-- What a side and a mark hold. The value of an edge, less 1 where its zeros are outside, is taken with the sign that makes it rise along a row;
+-- 1,024 times that and the column has the same sign in the first 1,024 columns, and rises by 1 at least, so that in a row it turns at one column.
+use Prim.Native.Nat.{ℕ}
 use mathlib.Core.Path.{_≡_}
 use mathlib.Core.Bool.{Bool, _&&_}
-use lib.Dec.{ltb}
-use lib.IntN.{ℤ, pos, _-ℤ_, _*ℤ_}
-use Rattle.ints.specs.Modulo.{mod32}
+use lib.IntN.{ℤ, pos, negsuc, _+ℤ_, _-ℤ_, _*ℤ_}
 use Rattle.rules.specs.declared.Triangle.{Triangle}
 use Rattle.rules.specs.Turns.{choose}
-use Rattle.rules.specs.Triangles.{Edge, dx, dy, edge1, edge2, edge3, edgeValue, sample, keepsZero}
+use Rattle.rules.specs.Triangles.{Edge, dx, dy, edge1, edge2, edge3, edgeValue, sample, keepsZero, positive}
 use Rattle.rules.specs.Numbers.{vertexInRange}
+use Rattle.cover.specs.declared.Part.{Part}
 use Rattle.cover.specs.declared.Side.{Side}
 use Rattle.cover.specs.declared.Sides.{Sides}
-use Rattle.cover.specs.declared.Pairs.{Pairs}
-use Rattle.cover.specs.declared.Values.{Values}
+use Rattle.cover.specs.declared.Marks.{Marks}
+use Rattle.cover.specs.Parts.{Parted, Addable}
 
 abbrev pub edgeFrom : ℤ → ℤ → ℤ → ℤ → Edge
 edgeFrom a b c d = record { x1 = a; y1 = b; x2 = c; y2 = d }
@@ -28,123 +28,38 @@ sided e x y = edgeValue e (sample x y) -ℤ choose (keepsZero e) (pos 0) (pos 1)
 abbrev pub slope : Edge → ℤ
 slope e = pos 0 -ℤ pos 8 *ℤ dy e
 
-abbrev pub sideAt : Side → ℕ → ℕ → ℕ
-sideAt d x y = (d .c + d .a * x + d .b * y) % 4294967296
+-- where it falls to the right, the sign is turned: then it is not negative outside
+abbrev pub rising : Edge → ℕ → ℕ → ℤ
+rising e x y = choose (positive (dy e)) (negsuc 0 -ℤ sided e x y) (sided e x y)
 
--- a group's leaf with the most, and the one with the least, where a stands for a negative number from 2^31 on
-abbrev pub bestLeaf : ℕ → ℕ
-bestLeaf a = choose (ltb a 2147483648) 15 0
+-- what a column and a row add to 1,024 times that and the column
+abbrev pub acrossOf : ℤ → ℤ
+acrossOf dy = choose (positive dy) (pos 8192 *ℤ dy +ℤ pos 1) (pos 1 -ℤ pos 8192 *ℤ dy)
 
-abbrev pub worstLeaf : ℕ → ℕ
-worstLeaf a = choose (ltb a 2147483648) 0 15
-
--- what they add to the group's first value
-abbrev pub reachOf : ℕ → ℕ
-reachOf a = choose (ltb a 2147483648) (a * 15 % 4294967296) 0
-
-abbrev pub fallOf : ℕ → ℕ
-fallOf a = choose (ltb a 2147483648) 0 (a * 15 % 4294967296)
-
--- steps of two values in one word, the upper one 2^32 times the lower: where the lower one steps back, it borrows from the upper
-abbrev pub stepsOf : ℕ → ℕ → ℕ
-stepsOf low high = choose (ltb low 2147483648) high ((high + 4294967295) % 4294967296) * 4294967296 + low
-
--- from the worst and the best leaf to the first and the ninth; a times 2^32 - 15 and 2^32 - 7 are 15 and 7 steps back
-abbrev pub spreadOf : ℕ → ℕ
-spreadOf a =
-    choose (ltb a 2147483648)
-    (stepsOf 0 (a * 4294967289 % 4294967296))
-    (stepsOf (a * 4294967281 % 4294967296) (a * 8 % 4294967296))
-
-abbrev pub sideFrom : ℕ → ℕ → ℕ → Side
-sideFrom c a b =
-    record {
-      c = c;
-      a = a;
-      b = b;
-      reach = reachOf a;
-      fall = fallOf a;
-      leap = stepsOf (a * 16 % 4294967296) (a * 16 % 4294967296);
-      down = stepsOf b b;
-      spread = spreadOf a;
-      both = stepsOf a a;
-    }
+abbrev pub downOf : ℤ → ℤ → ℤ
+downOf dx dy = choose (positive dy) (pos 0 -ℤ pos 8192 *ℤ dx) (pos 8192 *ℤ dx)
 
 pub record SideOf (e : Edge) (d : Side) : Type 0 where
-  pub here : (x y : ℕ) → sideAt d x y ≡ mod32 (sided e x y)
-  pub right : d .a ≡ mod32 (slope e)
-  pub below : d .b ≡ mod32 (pos 8 *ℤ dx e)
-  pub reaches : d .reach ≡ reachOf (d .a)
-  pub falls : d .fall ≡ fallOf (d .a)
-  pub leaps : d .leap ≡ stepsOf (d .a * 16 % 4294967296) (d .a * 16 % 4294967296)
-  pub downs : d .down ≡ stepsOf (d .b) (d .b)
-  pub spreads : d .spread ≡ spreadOf (d .a)
-  pub boths : d .both ≡ stepsOf (d .a) (d .a)
-
-abbrev pub valuesFrom : ℕ → ℕ → ℕ → Values
-valuesFrom a b c = record { p = a; q = b; r = c }
-
-abbrev pub pairsFrom : ℕ → ℕ → ℕ → Pairs
-pairsFrom a b c = record { p = a; q = b; r = c }
-
--- three sides together, and each by itself
-abbrev pub sidesFrom : Side → Side → Side → Sides
-sidesFrom p q r =
-    record {
-      c = record { p = p .c; q = q .c; r = r .c };
-      a = record { p = p .a; q = q .a; r = r .a };
-      b = record { p = p .b; q = q .b; r = r .b };
-      reach = record { p = p .reach; q = q .reach; r = r .reach };
-      fall = record { p = p .fall; q = q .fall; r = r .fall };
-      leap = record { p = p .leap; q = q .leap; r = r .leap };
-      down = record { p = p .down; q = q .down; r = r .down };
-      spread = record { p = p .spread; q = q .spread; r = r .spread };
-      both = record { p = p .both; q = q .both; r = r .both };
-    }
-
-abbrev pub first : Sides → Side
-first d =
-    record {
-      c = d .c .p;
-      a = d .a .p;
-      b = d .b .p;
-      reach = d .reach .p;
-      fall = d .fall .p;
-      leap = d .leap .p;
-      down = d .down .p;
-      spread = d .spread .p;
-      both = d .both .p;
-    }
-
-abbrev pub second : Sides → Side
-second d =
-    record {
-      c = d .c .q;
-      a = d .a .q;
-      b = d .b .q;
-      reach = d .reach .q;
-      fall = d .fall .q;
-      leap = d .leap .q;
-      down = d .down .q;
-      spread = d .spread .q;
-      both = d .both .q;
-    }
-
-abbrev pub third : Sides → Side
-third d =
-    record {
-      c = d .c .r;
-      a = d .a .r;
-      b = d .b .r;
-      reach = d .reach .r;
-      fall = d .fall .r;
-      leap = d .leap .r;
-      down = d .down .r;
-      spread = d .spread .r;
-      both = d .both .r;
-    }
+  pub is-across : pos (d .across) ≡ acrossOf (dy e)
+  pub is-down : Parted (downOf (dx e) (dy e)) (d .across) (d .down)
+  pub is-ends : d .ends ≡ positive (dy e)
 
 pub record SidesOf (t : Triangle) (d : Sides) : Type 0 where
-  pub of1 : SideOf (edge1 t) (first d)
-  pub of2 : SideOf (edge2 t) (second d)
-  pub of3 : SideOf (edge3 t) (third d)
+  pub of1 : SideOf (edge1 t) (d .p)
+  pub of2 : SideOf (edge2 t) (d .q)
+  pub of3 : SideOf (edge3 t) (d .r)
+
+-- the value at the start of row y
+abbrev pub MarkOf : Edge → ℕ → ℕ → Part → Type 0
+MarkOf e y a m = Parted (pos 1024 *ℤ rising e 0 y) a m
+
+pub record MarksOf (t : Triangle) (y : ℕ) (d : Sides) (m : Marks) : Type 0 where
+  pub of1 : MarkOf (edge1 t) y (d .p .across) (m .p)
+  pub of2 : MarkOf (edge2 t) y (d .q .across) (m .q)
+  pub of3 : MarkOf (edge3 t) y (d .r .across) (m .r)
+
+-- marks that can be taken a row down
+pub record Below (m : Marks) (d : Sides) : Type 0 where
+  pub first : Addable (d .p .across) (m .p) (d .p .down)
+  pub second : Addable (d .q .across) (m .q) (d .q .down)
+  pub third : Addable (d .r .across) (m .r) (d .r .down)

@@ -15,7 +15,8 @@ use Rattle.rules.specs.Turns.{bit, howMany, choose}
 use Rattle.rules.specs.Sizes.{colourAt, depthAt, half, putHalf, putPixel}
 use Rattle.rules.specs.Triangles.{topHalf, packed, triangleDepth, triangleColour, covered, written, pixelDrawn}
 use Rattle.rules.proofs.Turns.{upto-more, upto-add, upto-still, howMany-more, howMany-add, howMany-none, howMany-some, howMany-rest}
-use Rattle.rules.proofs.Pixels.{Sound, On, sound-facts}
+use Rattle.rules.proofs.Pixels.{Sound, On, sound-facts, colour-depth-apart}
+use Rattle.rules.proofs.Halves.{apart-sym, putHalf-comm}
 use Rattle.cover.specs.Mask.{maskOf}
 use Rattle.cover.proofs.Mask.{mask-ones}
 use Rattle.cover.proofs.Unbroken.{unbroken}
@@ -91,13 +92,18 @@ module _ (s : Screen) (t : Triangle) (x y : ℕ) where
           rw (u .is-next h)
           (ap (λ (z : Tints). leb (topHalf (z .depth)) (half m (depthAt s (x + k) y))) (u .is-tints))
 
-      put-is : (b : Bool)
-          → choose b (putHalf (putHalf m (colourAt s (x + k) y) (packed (v .red) (v .green) (v .blue))) (depthAt s (x + k) y) (topHalf (v .depth))) m
+      -- the two half-words have no byte in common, so their order is free
+      put-is : left ≢ 0 → (b : Bool)
+          → choose b (putHalf (putHalf m (depthAt s (x + k) y) (topHalf (v .depth))) (colourAt s (x + k) y) (packed (v .red) (v .green) (v .blue))) m
           ≡ choose b (putPixel s (x + k) y (triangleColour t (x + k) y) (triangleDepth t (x + k) y) m) m
       unfolding putPixel triangleColour triangleDepth
-      put-is b =
-          ap (λ (z : Tints). choose b (putHalf (putHalf m (colourAt s (x + k) y) (packed (z .red) (z .green) (z .blue))) (depthAt s (x + k) y) (topHalf (z .depth))) m)
+      put-is h b =
+          let p = on-leaf (still-left h) in
+          ap (λ (z : Tints). choose b (putHalf (putHalf m (depthAt s (x + k) y) (topHalf (z .depth))) (colourAt s (x + k) y) (packed (z .red) (z .green) (z .blue))) m)
           (u .is-tints)
+          ∙ ap (λ (n : List ℕ). choose b n m)
+          (putHalf-comm m (depthAt s (x + k) y) (triangleDepth t (x + k) y) (colourAt s (x + k) y) (triangleColour t (x + k) y)
+          (apart-sym (colour-depth-apart facts p p)))
 
       pub turn-more : left ≢ 0 → (r : ℕ) (m′ : List ℕ) → LeafDone m (colourAt s (x + k) y) (depthAt s (x + k) y) v w r m′
           → Turn m₀ s t x y m′ (left - 1) (k + 1) (tintsMoved v (tintSteps t)) r
@@ -121,7 +127,7 @@ module _ (s : Screen) (t : Triangle) (x y : ℕ) where
                 ∙ ap (λ (n : ℕ). tintsAt t n y) i;
             is-memory =
                 d .leaves
-                ∙ put-is (passes m (depthAt s (x + k) y) v)
+                ∙ put-is h (passes m (depthAt s (x + k) y) v)
                 ∙ ap (λ (b : Bool). choose b (putPixel s (x + k) y (triangleColour t (x + k) y) (triangleDepth t (x + k) y) m) m) (judged h)
                 ∙ ap (pixelDrawn t s y (x + k)) (u .is-memory)
                 ∙ sym (upto-more (λ j. pixelDrawn t s y (x + j)) k m₀);

@@ -1,4 +1,4 @@
--- Columns and rows that lie wholly before or beyond all three vertices hold nothing inside, wherever in its pixel the sample point lies.
+-- Rows that lie wholly before or beyond all three vertices hold nothing inside, wherever in its pixel the sample point lies.
 use Prim.Native.Nat.{ℕ, _+_, _*_, _≤_, _<_}
 use mathlib.Core.Path.{_≡_, _∙_, ap, subst}
 use mathlib.Core.Bool.{true, false}
@@ -15,7 +15,7 @@ use Rattle.rules.specs.Triangles.{sampleOffset, sample, insideAll}
 use Rattle.rules.specs.Numbers.{vertexInRange}
 use Rattle.cover.specs.Extent.{Before, Beyond}
 use Rattle.cover.proofs.Along.{vertex-within}
-use Rattle.cover.proofs.Outside.{left-of, right-of, above, below}
+use Rattle.cover.proofs.Outside.{above, below}
 
 -- the sample point lies in its pixel
 after-start : {v : ℤ} (k : ℕ) → v <ℤ pos (8 * k) → v <ℤ pos (8 * k + sampleOffset)
@@ -25,14 +25,6 @@ before-end : {v : ℤ} (k : ℕ) → pos (8 * k + 7) <ℤ v → pos (8 * k + sam
 before-end k h = ≤ℤ-<ℤ-trans (pos-le (omega arith)) h
 
 module _ (t : Triangle) (x y : ℕ) where
-  pub column-before : Before (t .x1) (t .x2) (t .x3) x → insideAll t (sample x y) ≡ false
-  unfolding sample
-  column-before b = left-of t (sample x y) (before-end x (b .first)) (before-end x (b .second)) (before-end x (b .third))
-
-  pub column-beyond : Beyond (t .x1) (t .x2) (t .x3) x → insideAll t (sample x y) ≡ false
-  unfolding sample
-  column-beyond b = right-of t (sample x y) (after-start x (b .first)) (after-start x (b .second)) (after-start x (b .third))
-
   pub row-before : Before (t .y1) (t .y2) (t .y3) y → insideAll t (sample x y) ≡ false
   unfolding sample
   row-before b = above t (sample x y) (before-end y (b .first)) (before-end y (b .second)) (before-end y (b .third))

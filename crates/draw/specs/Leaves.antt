@@ -20,7 +20,7 @@ pub record LeafDone (m : List ℕ) (colour depth : ℕ) (v : Tints) (before answ
   pub counts : answer ≡ before + bit (passes m depth v)
   pub leaves : after
       ≡ choose (passes m depth v)
-      (putHalf (putHalf m colour (packed (v .red) (v .green) (v .blue))) depth (topHalf (v .depth)))
+      (putHalf (putHalf m depth (topHalf (v .depth))) colour (packed (v .red) (v .green) (v .blue)))
       m
 
 -- the leaves of the group that starts at pixel (x, y), on the screen

@@ -1,43 +1,36 @@
--- What drawing a group, a row and a frame promises, and which groups and rows can be left out.
-use Prim.Native.Nat.{ℕ, _+_, _*_, _≤_, _<_}
+-- What drawing a group, a row and a frame promises, and which rows can be left out.
+use Prim.Native.Nat.{ℕ, _+_, _≤_, _<_}
 use mathlib.Core.Path.{_≡_}
 use mathlib.Core.Logic.{_⊎_}
-use mathlib.Core.Bool.{Bool, true, false, not, _&&_}
+use mathlib.Core.Bool.{true, false}
 use mathlib.Core.List.{List}
-use lib.Dec.{eqb}
 use Rattle.rules.specs.declared.Screen.{Screen}
 use Rattle.rules.specs.declared.Triangle.{Triangle}
 use Rattle.rules.specs.Turns.{howMany}
-use Rattle.rules.specs.Sizes.{groups, width, height, sound}
+use Rattle.rules.specs.Sizes.{width, height, sound}
 use Rattle.rules.specs.Numbers.{verticesInRange}
 use Rattle.rules.specs.Triangles.{sample, insideAll, covered, written, rowDrawn, drawn, coveredPixels, writtenPixels}
-use Rattle.cover.specs.declared.Pairs.{Pairs}
-use Rattle.cover.specs.declared.Sides.{Sides}
-use Rattle.cover.specs.Side.{SidesOf}
-use Rattle.cover.specs.Pairs.{endsAt}
+use Rattle.cover.specs.declared.Span.{Span}
+use Rattle.cover.specs.Runs.{inRun}
 use Rattle.draw.specs.declared.Counts.{Counts}
-use Rattle.draw.specs.declared.Span.{Span}
-use Rattle.draw.specs.Leaves.{GroupDone}
+use Rattle.draw.specs.Leaves.{GroupOn, GroupDone}
 
 pub record VisitDone (m : List ℕ) (s : Screen) (t : Triangle) (x y : ℕ) (answer : Counts) (after : List ℕ) : Type 0 where
   pub covers : answer .covered ≡ howMany (λ k. covered t s (x + k) y) 16
   pub draws : GroupDone m s t x y (answer .written) after
 
--- something was covered before, and now nothing is
-abbrev pub runEnded : ℕ → ℕ → Bool
-runEnded before now = not (eqb before 0) && eqb now 0
+-- the covered pixels of the group that starts at pixel (x, y) are those of the columns a to b
+pub record VisitAsked (n : ℕ) (s : Screen) (t : Triangle) (x y a b : ℕ) : Type 0 where
+  pub on : GroupOn n s x y
+  pub run : (k : ℕ) → k < 16 → covered t s (x + k) y ≡ inRun a b (x + k)
 
--- nothing of row y is inside but in the groups a to b, and v holds the first one's ends
-pub record RowAsked (n : ℕ) (s : Screen) (t : Triangle) (d : Sides) (v : Pairs) (y a b : ℕ) : Type 0 where
+-- the covered pixels of row y are those of the columns a to b
+pub record RowAsked (n : ℕ) (s : Screen) (t : Triangle) (y a b : ℕ) : Type 0 where
   pub is-sound : sound n s ≡ true
-  pub in-range : verticesInRange t ≡ true
-  pub sides : SidesOf t d
-  pub ends : v ≡ endsAt d (a * 16) y
   pub row : y < height (s .size)
   pub ordered : a ≤ b
-  pub columns : b ≤ groups (s .size)
-  pub before : (x : ℕ) → x < a * 16 → insideAll t (sample x y) ≡ false
-  pub beyond : (x : ℕ) → b * 16 ≤ x → x < width (s .size) → insideAll t (sample x y) ≡ false
+  pub limited : b ≤ width (s .size)
+  pub run : (x : ℕ) → x < width (s .size) → covered t s x y ≡ inRun a b x
 
 pub record RowDone (m : List ℕ) (s : Screen) (t : Triangle) (y : ℕ) (answer : Counts) (after : List ℕ) : Type 0 where
   pub covers : answer .covered ≡ howMany (λ x. covered t s x y) (width (s .size))
@@ -50,12 +43,6 @@ pub record Clipped (first past limit : ℕ) (r : Span) : Type 0 where
   pub limited : r .to ≤ limit
   pub before : (k : ℕ) → k < limit → k < r .from → (k < first) ⊎ (past ≤ k)
   pub beyond : (k : ℕ) → k < limit → r .to ≤ k → (k < first) ⊎ (past ≤ k)
-
-pub record ColumnsTouched (t : Triangle) (n : ℕ) (r : Span) : Type 0 where
-  pub ordered : r .from ≤ r .to
-  pub limited : r .to ≤ n
-  pub before : (x y : ℕ) → x < n * 16 → x < r .from * 16 → insideAll t (sample x y) ≡ false
-  pub beyond : (x y : ℕ) → x < n * 16 → r .to * 16 ≤ x → insideAll t (sample x y) ≡ false
 
 pub record RowsTouched (t : Triangle) (n : ℕ) (r : Span) : Type 0 where
   pub ordered : r .from ≤ r .to

@@ -9,7 +9,6 @@ use screen::halves::load_half;
 use screen::halves::store_half;
 use screen::sizes::colour_place;
 use screen::sizes::depth_place;
-ghost use mathlib.Core.Path.{_≡_};
 ghost use Prim.Native.Nat.{_+_, _<_};
 ghost use lib.ListN.{length};
 ghost use Rattle.draw.specs.Leaves.{LeafDone, GroupAsked, GroupDone};
@@ -23,8 +22,8 @@ pub fn leaf(ram: &mut [u8], colour: usize, depth: usize, v: Tints, written: u32)
     if load_half(ram, depth) < z {
         return written;
     }
-    store_half(ram, colour, colour_of(v));
     store_half(ram, depth, z);
+    store_half(ram, colour, colour_of(v));
     written + 1
 }
 

@@ -19,9 +19,3 @@ pub struct Counts {
     pub covered: u32,
     pub written: u32,
 }
-
-// From `from` up to but not including `to`.
-pub struct Span {
-    pub from: u32,
-    pub to: u32,
-}

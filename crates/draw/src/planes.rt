@@ -8,7 +8,7 @@ use words::sum32;
 ghost use mathlib.Core.Path.{_≡_};
 ghost use Prim.Native.Nat.{_+_, _%_, _<_};
 ghost use Rattle.ints.specs.Modulo.{mod32};
-ghost use Rattle.rules.specs.Triangles.{planeAt, packed, topHalf};
+ghost use Rattle.rules.specs.Triangles.{planeAt, packed};
 ghost use Rattle.draw.specs.Planes.{tintsAt, tintSteps, tintsMoved};
 
 fn plane_at(p: Plane, x: u32, y: u32) -> u32

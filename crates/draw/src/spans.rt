@@ -1,12 +1,12 @@
-// Which rows and which groups of columns a triangle can touch on a screen.
-use crate::Span;
+// Which rows a triangle can touch on a screen.
+use cover::Span;
 use cover::extent::first_touched;
 use cover::extent::past_touched;
 use rules::Triangle;
 ghost use mathlib.Core.Path.{_≡_};
 ghost use mathlib.Core.Bool.{true};
 ghost use Rattle.rules.specs.Numbers.{verticesInRange};
-ghost use Rattle.draw.specs.Rows.{Clipped, ColumnsTouched, RowsTouched};
+ghost use Rattle.draw.specs.Rows.{Clipped, RowsTouched};
 
 // The places from `first` to `past`, as far as they are below `limit`.
 fn clipped(first: u32, past: u32, limit: u32) -> Span
@@ -30,16 +30,7 @@ fn clipped(first: u32, past: u32, limit: u32) -> Span
     }
 }
 
-// The groups of sixteen columns.
-pub fn touched_groups(t: Triangle, groups: u32) -> Span
-    requires { ⌜ verticesInRange t ≡ true ⌝ }
-    ensures { λ r. ⌜ ColumnsTouched t groups r ⌝ }
-{
-    let first = first_touched(t.x1, t.x2, t.x3);
-    let past = past_touched(t.x1, t.x2, t.x3);
-    clipped(first / 16, (past + 15) / 16, groups)
-}
-
+// The rows of a screen of this height.
 pub fn touched_rows(t: Triangle, height: u32) -> Span
     requires { ⌜ verticesInRange t ≡ true ⌝ }
     ensures { λ r. ⌜ RowsTouched t height r ⌝ }

@@ -1,14 +1,14 @@
 -- The laws of mod32: it takes sums and products to sums and products of naturals modulo 2^32, and it is the low half of a machine word. By cases on the signs, and omega.
 use mathlib.Core.Path.{_≡_, refl, ap, _∙_}
 use mathlib.Core.Bool.{Bool, true, false, cond}
-use Prim.Native.Nat.{ℕ, zero, suc, _+_, _*_, _-_, _%_, _≤_, _<_}
+use Prim.Native.Nat.{ℕ, zero, suc, _+_, _*_, _-_, _%_, _<_}
 use native.Mathlib.Nat.{mul-suc, mul-zero, add-mod-mod, mod-add-mod}
 use native.Mathlib.Omega.{arith}
 use lib.Bits
 use lib.Dec.{ltb}
 use lib.IntN.{ℤ, pos, negsuc, subℕ, negℤ, _+ℤ_, _-ℤ_, _*ℤ_, *ℤ-zero}
-use lib.Signed.{mag, nonNeg}
-use borrow.Author.Tests.{ltb-true, ltb-false, lt-ltb, le-ltb}
+use lib.Signed.{mag}
+use borrow.Author.Tests.{ltb-true, ltb-false}
 use mir.Syntax.{w32, w64}
 use mir.Val.{Fits, ofZ, toZ}
 use mir.ValLaws.{toZ-fits, ofZ-toZ}
@@ -78,18 +78,6 @@ pub mod32-low : (z : ℤ) → mag z < 9223372036854775808 → ofZ w64 z % 429496
 unfolding mod32
 mod32-low (pos n) h = refl
 mod32-low (negsuc n) h = omega arith
-
-pub mod32-sign : (z : ℤ) → mag z < 2147483648 → ltb (mod32 z) 2147483648 ≡ nonNeg z
-unfolding mod32
-mod32-sign (pos n) h = lt-ltb (n % 4294967296) 2147483648 (omega arith)
-mod32-sign (negsuc n) h = le-ltb (4294967295 - n % 4294967296) 2147483648 (omega arith)
-
--- a number of 30 bits, raised by 2^31, is near the middle of 32 bits
-pub mod32-middle : (z : ℤ) → mag z < 536870912
-    → (1610612736 ≤ (mod32 z + 2147483648) % 4294967296) × ((mod32 z + 2147483648) % 4294967296 ≤ 2684354560)
-unfolding mod32
-mod32-middle (pos n) h = (omega arith, omega arith)
-mod32-middle (negsuc n) h = (omega arith, omega arith)
 
 -- 32 bits, read as signed and written again
 pub mod32-toZ : (n : ℕ) → n < 4294967296 → mod32 (toZ w32 n) ≡ n

@@ -70,6 +70,15 @@ pub is-nat : {z : ℤ} {p n q m : ℕ} → Is z p n → Is z q m → p + m ≡ q
 is-nat {z} {p} {n} {q} {m} h k =
     pos-inj (ap (λ (x : ℤ). x +ℤ pos m) (sym (h .is)) ∙ solve (z ∷ pos n ∷ pos m ∷ []) (var 0 ⊕ var 1 ⊕ var 2) (var 0 ⊕ var 2 ⊕ var 1) tt ∙ ap (λ (x : ℤ). x +ℤ pos n) (k .is))
 
+-- a difference, from another of the same integer
+pub is-same : {z : ℤ} {p n q m : ℕ} → Is z p n → p + m ≡ q + n → Is z q m
+is-same {z} {p} {n} {q} {m} h e =
+    record {
+      is =
+          +ℤ-cancel (z +ℤ pos m) (pos q) (pos n)
+          (solve (z ∷ pos n ∷ pos m ∷ []) (var 0 ⊕ var 2 ⊕ var 1) (var 0 ⊕ var 1 ⊕ var 2) tt ∙ ap (λ (x : ℤ). x +ℤ pos m) (h .is) ∙ ap pos e);
+    }
+
 -- an order of integers is one of naturals
 le-up : (z y : ℤ) → T (leZ z y) → up z + dn y ≤ up y + dn z
 le-up (pos a) (pos b) t = omega (arith, leb→le a b t)

@@ -1,33 +1,12 @@
 -- The two tests of dy and the one of dx say which case of the tie rule holds.
-use mathlib.Core.Path.{_≡_, refl, sym, _∙_, ap}
+use mathlib.Core.Path.{_≡_, refl, sym}
 use Prim.Native.Nat.{zero, suc}
-use mathlib.Core.Bool.{Bool, true, false}
-use native.Mathlib.Omega.{arith}
+use mathlib.Core.Bool.{true, false}
 use lib.IntN.{ℤ, pos, negsuc}
-use lib.Signed.{ltZ}
-use borrow.Author.Tests.{lt-ltb, le-ltb}
-use mir.Syntax.{w64}
-use mir.Val.{SFits, toZ, ofZ}
-use mir.ValLaws.{toZ-ofZ}
 use Rattle.rules.specs.Triangles.{positive, isZero, negative}
+use Rattle.cover.proofs.Codes.{read-above, read-below}
 use Rattle.cover.proofs.setup.loss.Statement.{statement}
 use Rattle.cover.proofs.setup.loss.Tie as tie
-
-above : (z : ℤ) → ltZ (pos 0) z ≡ positive z
-above (pos zero) = refl
-above (pos (suc n)) = lt-ltb 0 (suc n) (omega arith)
-above (negsuc n) = refl
-
-below : (z : ℤ) → ltZ z (pos 0) ≡ negative z
-below (pos n) = le-ltb n 0 (omega arith)
-below (negsuc n) = refl
-
--- one test of a machine number against 0, each way
-read-above : (z : ℤ) {b : Bool} → SFits w64 z → ltZ (pos 0) (toZ w64 (ofZ w64 z)) ≡ b → positive z ≡ b
-read-above z f h = sym (above z) ∙ ap (ltZ (pos 0)) (sym (toZ-ofZ w64 z f)) ∙ h
-
-read-below : (z : ℤ) {b : Bool} → SFits w64 z → ltZ (toZ w64 (ofZ w64 z)) (pos 0) ≡ b → negative z ≡ b
-read-below z f h = sym (below z) ∙ ap (λ (k : ℤ). ltZ k (pos 0)) (sym (toZ-ofZ w64 z f)) ∙ h
 
 not-zero : (z : ℤ) → positive z ≡ true → (negative z ≡ false) × (isZero z ≡ false)
 not-zero (pos zero) h = (refl, sym h)

@@ -1,18 +1,18 @@
--- The signed sums are within 64 bits by the vertices' range, and c, a and b are the lowered value at pixel (0, 0) and its two steps.
+-- The differences are within their range, so both steps are, and each part is what its function promises.
+use Prim.Native.Nat.{_≤_}
 use mathlib.Core.Path.{_≡_, sym, _∙_, ap, ap₂, subst}
-use mathlib.Core.Bool.{_&&_, _||_}
 use native.Mathlib.Omega.{arith}
-use lib.IntN.{ℤ, pos, _-ℤ_}
+use lib.IntN.{ℤ, pos, natAbs}
+use lib.Signed.{ltZ}
 use mir.Syntax.{w64}
-use Rattle.ints.specs.Modulo.{mod32}
-use Rattle.ints.proofs.Bounds.{Within}
-use Rattle.ints.proofs.Machine.{got-in, Code, known, _⊟_, _⊠_, need, reads-as}
-use Rattle.rules.specs.Turns.{choose}
-use Rattle.rules.specs.Triangles.{Edge, sample, edgeValue, keepsZero, negative, isZero, positive}
-use Rattle.cover.specs.Side.{edgeFrom, sided, SideOf}
-use Rattle.cover.proofs.Along.{EdgeWithin, edge-within, loss-within, side-of, read-in-range}
+use Rattle.ints.proofs.Bounds.{Within, within-le}
+use Rattle.ints.proofs.Machine.{got-in, Code, known, need, got-of, reads-as}
+use Rattle.rules.specs.Triangles.{Edge, dx, dy}
+use Rattle.cover.specs.Side.{edgeFrom, acrossOf, downOf}
+use Rattle.cover.specs.Parts.{Parted}
+use Rattle.cover.proofs.Along.{EdgeWithin, edge-within, above}
 use Rattle.cover.proofs.Codes as code
-use Rattle.cover.proofs.Codes.{eightC, answeredC, answered}
+use Rattle.cover.proofs.Turning.{down-within, across-least}
 use Rattle.cover.proofs.setup.side.Statement.{statement}
 use Rattle.cover.proofs.setup.side.Tie as tie
 
@@ -22,32 +22,11 @@ edge c = edgeFrom (c .args .x1) (c .args .y1) (c .args .x2) (c .args .y2)
 in-range : (c : tie.Start) → EdgeWithin (edge c)
 in-range c = edge-within (edge c) (c .pre)
 
-abbrev dx : tie.Start → Code w64
-dx c = code.dxC (edge c) (in-range c)
+abbrev dxC : tie.Start → Code w64
+dxC c = code.dxC (edge c) (in-range c)
 
-abbrev dy : tie.Start → Code w64
-dy c = code.dyC (edge c) (in-range c)
-
-abbrev slope : tie.Start → Code w64
-slope c = code.slopeC (edge c) (in-range c)
-
-abbrev lossOf : ℤ → ℤ → ℤ
-lossOf x y = choose (negative y || isZero y && positive x) (pos 0) (pos 1)
-
-lost : (c : tie.After-loss) → c .loss .result ≡ choose (keepsZero (edge (c .before .before))) (pos 0) (pos 1)
-unfolding keepsZero
-lost c = c .loss .ensures ∙ ap₂ lossOf (reads-as (dx (c .before .before)) tt) (reads-as (dy (c .before .before)) tt)
-
-valued : (c : tie.After-edge-value) → c .edge-value .result ≡ edgeValue (edge (c .before)) (sample 0 0)
-valued c = answered (edge (c .before)) (sample 0 0) (c .before .pre) (c .edge-value .ensures)
-
-abbrev value : tie.After-edge-value → Code w64
-value c = answeredC (edge (c .before)) (in-range (c .before)) 0 0 (omega arith) (omega arith) (c .edge-value .result) (valued c)
-
-abbrev lowered : tie.After-loss → Code w64
-lowered c =
-    value (c .before)
-    ⊟ known (got-in {b = 1} (subst (Within 1) (sym (lost c)) (loss-within (keepsZero (edge (c .before .before))))) tt)
+abbrev dyC : tie.Start → Code w64
+dyC c = code.dyC (edge c) (in-range c)
 
 cast-dx : tie.Need-cast-dx
 cast-dx c = need (code.x2C (edge c) (in-range c)) tt
@@ -56,7 +35,7 @@ cast-dx-2 : tie.Need-cast-dx-2
 cast-dx-2 c = need (code.x1C (edge c) (in-range c)) tt
 
 sub-dx : tie.Need-sub-dx
-sub-dx c = need (dx c) tt
+sub-dx c = need (dxC c) tt
 
 cast-dy : tie.Need-cast-dy
 cast-dy c = need (code.y2C (edge c) (in-range c)) tt
@@ -65,52 +44,46 @@ cast-dy-2 : tie.Need-cast-dy-2
 cast-dy-2 c = need (code.y1C (edge c) (in-range c)) tt
 
 sub-dy : tie.Need-sub-dy
-sub-dy c = need (dy c) tt
+sub-dy c = need (dyC c) tt
 
-edge-value-requires : tie.Need-edge-value-requires
-edge-value-requires c κs = (read-in-range (edge c) (c .pre), omega arith, omega arith)
+across-requires : tie.Need-across-requires
+across-requires c κs = subst (λ (z : ℤ). natAbs z ≤ 16384) (sym (reads-as (dyC c) tt)) (got-of (dyC c) tt .bound .within)
 
-loss-requires : tie.Need-loss-requires
-loss-requires c κs = tt
+down-requires : tie.Need-down-requires
+down-requires c κs =
+    let s = c .before in
+    subst (λ (z : ℤ). natAbs z ≤ 16384) (sym (reads-as (dxC s) tt)) (got-of (dxC s) tt .bound .within)
 
-sub-low32 : tie.Need-sub-low32
-sub-low32 c = need (lowered c) tt
+is-across : (c : tie.After-across) → pos (c .across .result) ≡ acrossOf (dy (edge (c .before)))
+is-across c = c .across .ensures ∙ ap acrossOf (reads-as (dyC (c .before)) tt)
 
-low32-requires : tie.Need-low32-requires
-low32-requires c κs = tt
+is-down : (c : tie.After-down) → c .down .result ≡ downOf (dx (edge (c .before .before))) (dy (edge (c .before .before)))
+is-down c = c .down .ensures ∙ ap₂ downOf (reads-as (dxC (c .before .before)) tt) (reads-as (dyC (c .before .before)) tt)
 
-mul-low32 : tie.Need-mul-low32
-mul-low32 c = need (eightC ⊠ dy (c .before .before .before)) tt
+abbrev downC : tie.After-down → Code w64
+downC c =
+    let e = edge (c .before .before) in
+    known
+    (got-in {b = 134217728}
+    (subst (Within 134217728) (sym (is-down c)) (down-within (dx e) (dy e) (got-of (dxC (c .before .before)) tt .bound))) tt)
 
-sub-low32-2 : tie.Need-sub-low32-2
-sub-low32-2 c = need (slope (c .before .before .before)) tt
-
-low32-requires-2 : tie.Need-low32-requires-2
-low32-requires-2 c κs = tt
-
-mul-low32-2 : tie.Need-mul-low32-2
-mul-low32-2 c = need (eightC ⊠ dx (c .before .before .before .before)) tt
-
-low32-requires-3 : tie.Need-low32-requires-3
-low32-requires-3 c κs = tt
-
-stepping-requires : tie.Need-stepping-requires
-stepping-requires c κs = tt
-
--- the lowered value at pixel (0, 0)
-start : (c : tie.After-loss) → c .before .edge-value .result -ℤ c .loss .result ≡ sided (edge (c .before .before)) 0 0
-unfolding sided
-start c = ap₂ _-ℤ_ (valued (c .before)) (lost c)
+parted-requires : tie.Need-parted-requires
+parted-requires c κs = (
+  subst (λ (z : ℤ). natAbs z ≤ 549755813888) (sym (reads-as (downC c) tt))
+      (within-le {m = 549755813888} (omega arith) (got-of (downC c) tt .bound) .within),
+  across-least (dy (edge (c .before .before))) (is-across (c .before)),
+)
 
 returns : tie.Need-returns
 returns c =
-    let l = c .before .before .before .before in
-    let s = l .before .before in
-    subst (SideOf (edge s)) (sym (c .stepping .ensures))
-    (side-of (edge s) (c .before .before .before .low32 .result) (c .before .before .low322 .result) (c .before .low323 .result)
-    (c .before .before .before .low32 .ensures ∙ ap mod32 (reads-as (lowered l) tt ∙ start l))
-    (c .before .before .low322 .ensures ∙ ap mod32 (reads-as (slope s) tt))
-    (c .before .low323 .ensures ∙ ap mod32 (reads-as (eightC ⊠ dx s) tt)))
+    let n = c .before in
+    let s = n .before .before in
+    record {
+      is-across = is-across (n .before);
+      is-down =
+          subst (λ (z : ℤ). Parted z (n .before .across .result) (c .parted .result)) (reads-as (downC n) tt ∙ is-down n) (c .parted .ensures);
+      is-ends = ap (ltZ (pos 0)) (reads-as (dyC s) tt) ∙ above (dy (edge s));
+    }
 
 pub side-spec : {M : Type 1} → statement M
 side-spec =
@@ -122,14 +95,7 @@ side-spec =
     cast-dy
     cast-dy-2
     sub-dy
-    edge-value-requires
-    loss-requires
-    sub-low32
-    low32-requires
-    mul-low32
-    sub-low32-2
-    low32-requires-2
-    mul-low32-2
-    low32-requires-3
-    stepping-requires
+    across-requires
+    down-requires
+    parted-requires
     returns)

@@ -1,9 +1,9 @@
 -- The vertices' range is that of each edge, and each side is what `side` promises.
-use mathlib.Core.Path.{_≡_, sym, subst}
+use mathlib.Core.Path.{_≡_, subst}
 use mathlib.Core.Bool.{true}
 use Rattle.rules.specs.Triangles.{Edge, edge1, edge2, edge3}
 use Rattle.cover.specs.declared.Side.{Side}
-use Rattle.cover.specs.Side.{SideOf, SidesOf, edgeInRange}
+use Rattle.cover.specs.Side.{SideOf, edgeInRange}
 use Rattle.cover.proofs.Along.{edges-in-range, read, read-edge, read-in-range}
 use Rattle.cover.proofs.setup.sides.Statement.{statement}
 use Rattle.cover.proofs.setup.sides.Tie as tie
@@ -27,21 +27,16 @@ side-requires-3 c κs =
     let s = c .before .before .before .before .before .before .before .before .before .before .before .before .before .before in
     read-in-range (edge3 (s .args .t)) (edges-in-range (s .args .t) (s .pre) .2)
 
-together-requires : tie.Need-together-requires
-together-requires c κs = tt
-
 returns : tie.Need-returns
 returns c =
-    let s = c .before .before .before .before .before .before .before .before .before .before .before .before .before .before .before .before in
+    let s = c .before .before .before .before .before .before .before .before .before .before .before .before .before .before .before in
     let t = s .args .t in
     let h = edges-in-range t (s .pre) in
-    subst (SidesOf t) (sym (c .together .ensures))
-    (record {
-      of1 = of (edge1 t) (h .0) (c .before .before .before .before .before .before .before .before .before .before .before .side .ensures);
-      of2 = of (edge2 t) (h .1) (c .before .before .before .before .before .before .side2 .ensures);
-      of3 = of (edge3 t) (h .2) (c .before .side3 .ensures);
-    })
+    record {
+      of1 = of (edge1 t) (h .0) (c .before .before .before .before .before .before .before .before .before .before .side .ensures);
+      of2 = of (edge2 t) (h .1) (c .before .before .before .before .before .side2 .ensures);
+      of3 = of (edge3 t) (h .2) (c .side3 .ensures);
+    }
 
 pub sides-spec : {M : Type 1} → statement M
-sides-spec =
-    tie.close (tie.spec side-requires side-requires-2 side-requires-3 together-requires returns)
+sides-spec = tie.close (tie.spec side-requires side-requires-2 side-requires-3 returns)

@@ -22,11 +22,11 @@ returns c =
     let f = lt-leb _ _ (subst (λ (n : ℕ). n < c .before .before .before .before .before .args .v .depth / 65536) (c .before .load-half .ensures .value) (c .if1 .taken)) in
     record { counts = rw f (sym (add-zero _)); leaves = rw f }
 
-colour-of-requires : tie.Need-colour-of-requires
-colour-of-requires c κs = search needs
-
 store-half-requires : tie.Need-store-half-requires
 store-half-requires c κs = search needs
+
+colour-of-requires : tie.Need-colour-of-requires
+colour-of-requires c κs = search needs
 
 store-half-requires-2 : tie.Need-store-half-requires-2
 store-half-requires-2 c κs = search needs
@@ -42,13 +42,13 @@ unfolding topHalf
 returns-2 c =
     let a = c .before .before .before .before .before .before .before .before .before .before .before .before .before .before .args in
     let f = le-leb _ _ (subst (λ (n : ℕ). a .v .depth / 65536 ≤ n) (c .before .before .before .before .before .before .before .before .before .before .load-half .ensures .value) (c .before .before .before .before .before .before .before .before .before .if1 .left)) in
+    let k = c .before .before .before .colour-of in
     record {
       counts = rw f;
       leaves = rw f
           (c .before .before .store-half2 .ensures
-          ∙ ap (λ (m : List ℕ). putHalf m (a .depth) (a .v .depth / 65536))
-          (c .before .before .before .before .before .before .store-half .ensures
-          ∙ ap (putHalf (a .ram .now) (a .colour)) (c .before .before .before .before .before .before .before .colour-of .ensures .0)));
+          ∙ ap (λ (m : List ℕ). putHalf m (a .colour) (k .result)) (c .before .before .before .before .before .before .before .store-half .ensures)
+          ∙ ap (putHalf (putHalf (a .ram .now) (a .depth) (a .v .depth / 65536)) (a .colour)) (k .ensures .0));
     }
 
 pub leaf-spec : {M : Type 1} → statement M
@@ -58,8 +58,8 @@ leaf-spec =
     load-half-requires
     same-length
     returns
-    colour-of-requires
     store-half-requires
+    colour-of-requires
     store-half-requires-2
     add-result
     same-length-2

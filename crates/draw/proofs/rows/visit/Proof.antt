@@ -9,24 +9,23 @@ use borrow.Author.Needs.{needs}
 use Rattle.draw.proofs.rows.visit.Statement.{statement}
 use Rattle.draw.proofs.rows.visit.Tie as tie
 
-group-mask-requires : tie.Need-group-mask-requires
-group-mask-requires c κs = search needs
+run-mask-requires : tie.Need-run-mask-requires
+run-mask-requires c κs = search needs
 
 returns : tie.Need-returns
 returns c =
     let q = c .before .before .before in
     let a = q .args in
-    visit-nothing (a .t) (a .s) _ (a .x) (a .y) (q .pre .0) (a .ram .now)
-    (sym (c .before .group-mask .ensures (a .t) (a .x) (a .y) (q .pre .1)) ∙ c .if1 .taken)
+    visit-nothing (a .t) (a .s) _ (a .x) (a .y) (a .from) (a .to) (q .pre) (a .ram .now) (sym (c .before .run-mask .ensures) ∙ c .if1 .taken)
 
 group-requires : tie.Need-group-requires
 group-requires c κs =
     let q = c .before .before .before .before in
     let a = q .args in
     record {
-      on = q .pre .0;
+      on = q .pre .on;
       some = c .before .if1 .left;
-      names = c .before .before .group-mask .ensures (a .t) (a .x) (a .y) (q .pre .1) ∙ mask-covered (a .t) (a .s) _ (a .x) (a .y) (q .pre .0);
+      names = c .before .before .run-mask .ensures ∙ mask-covered (a .t) (a .s) _ (a .x) (a .y) (a .from) (a .to) (q .pre);
     }
 
 same-length : tie.Need-same-length
@@ -38,10 +37,10 @@ returns-2 c =
     let a = q .args in
     record {
       covers =
-          ap ones (c .before .before .before .before .before .group-mask .ensures (a .t) (a .x) (a .y) (q .pre .1) ∙ mask-covered (a .t) (a .s) _ (a .x) (a .y) (q .pre .0))
+          ap ones (c .before .before .before .before .before .run-mask .ensures ∙ mask-covered (a .t) (a .s) _ (a .x) (a .y) (a .from) (a .to) (q .pre))
           ∙ mask-ones (λ k. covered (a .t) (a .s) (a .x + k) (a .y)) 16;
       draws = c .before .before .group .ensures;
     }
 
 pub visit-spec : {M : Type 1} → statement M
-visit-spec = tie.close (tie.spec group-mask-requires returns group-requires same-length returns-2)
+visit-spec = tie.close (tie.spec run-mask-requires returns group-requires same-length returns-2)

@@ -1,0 +1,106 @@
+-- The two folds are the last beginning and the first end; whether they leave a run is their test.
+use Prim.Native.Nat.{ℕ, _+_, _-_, _≤_, _<_}
+use mathlib.Core.Path.{_≡_, sym, _∙_, ap, subst₂}
+use native.Mathlib.Omega.{arith}
+use Rattle.cover.specs.Parts.{raise}
+use Rattle.cover.specs.Runs.{begun, ended, RunOf}
+use Rattle.cover.proofs.Meeting.{leastOf, mostOf, least-le, most-ge, run-none, run-some}
+use borrow.Author.Needs.{needs}
+use Rattle.cover.proofs.runs.run_of.Statement.{statement}
+use Rattle.cover.proofs.runs.run_of.Tie as tie
+
+begin-requires : tie.Need-begin-requires
+begin-requires c κs = search needs
+
+begin-requires-2 : tie.Need-begin-requires-2
+begin-requires-2 c κs = search needs
+
+begin-requires-3 : tie.Need-begin-requires-3
+begin-requires-3 c κs = search needs
+
+sub-end : tie.Need-sub-end
+sub-end c = search needs
+
+end-requires : tie.Need-end-requires
+end-requires c κs = search needs
+
+end-requires-2 : tie.Need-end-requires-2
+end-requires-2 c κs = search needs
+
+end-requires-3 : tie.Need-end-requires-3
+end-requires-3 c κs = search needs
+
+least : (c : tie.After-end3) →
+    let a = c .before .before .before .before .before .before .args in
+    c .before .before .before .begin3 .result ≡ leastOf (a .m) (a .d)
+least c =
+    let a = c .before .before .before .before .before .before .args in
+    c .before .before .before .begin3 .ensures
+    ∙ ap (begun (a .m .p .count) (a .d .p .ends))
+    (c .before .before .before .before .begin2 .ensures
+    ∙ ap (begun (a .m .q .count) (a .d .q .ends)) (c .before .before .before .before .before .begin .ensures))
+
+most : (c : tie.After-end3) →
+    let a = c .before .before .before .before .before .before .args in
+    c .end3 .result ≡ mostOf (a .m) (a .d) (a .w)
+most c =
+    let a = c .before .before .before .before .before .before .args in
+    c .end3 .ensures
+    ∙ ap (ended (a .m .p .count) (a .d .p .ends))
+    (c .before .end2 .ensures ∙ ap (ended (a .m .q .count) (a .d .q .ends)) (c .before .before .end .ensures))
+
+returns : tie.Need-returns
+returns c t y o h =
+    let s = c .before .before .before .before .before .before .before in
+    run-none t y (s .args .d) (s .args .m) o h (s .args .w) (s .pre)
+    (omega (arith, least (c .before), most (c .before), c .if1 .taken))
+
+-- the beginning is before the end, and so both are columns of the screen
+near : (c : tie.Else1) →
+    let e = c .before in
+    (e .before .before .before .begin3 .result ≤ raise) × (e .end3 .result < e .before .before .before .begin3 .result)
+    × (raise ≤ e .end3 .result + 640)
+near c =
+    let a = c .before .before .before .before .before .before .before .args in
+    let p = c .before .before .before .before .before .before .before .pre in (
+      omega (arith, least (c .before), least-le (a .m) (a .d)),
+      omega (arith, c .if1 .left),
+      omega (arith, most (c .before), most-ge (a .m) (a .d) (a .w), p),
+    )
+
+sub-t6 : tie.Need-sub-t6
+sub-t6 c = near c .0
+
+cast-t11 : tie.Need-cast-t11
+cast-t11 c = record { fits = omega (arith, near c) }
+
+sub-t7 : tie.Need-sub-t7
+sub-t7 c = omega (arith, near c)
+
+cast-t12 : tie.Need-cast-t12
+cast-t12 c = record { fits = omega (arith, near c) }
+
+returns-2 : tie.Need-returns-2
+returns-2 c t y o h =
+    let s = c .before .before .before .before .before .before .before in
+    subst₂ (λ (l g : ℕ). RunOf t y (s .args .w) (record { from = raise - l; to = raise - g })) (sym (least (c .before))) (sym (most (c .before)))
+    (run-some t y (s .args .d) (s .args .m) o h (s .args .w) (s .pre)
+    (omega (arith, least (c .before), most (c .before), c .if1 .left)))
+
+pub run-of-spec : {M : Type 1} → statement M
+run-of-spec =
+    tie.close
+    (tie.spec
+    begin-requires
+    begin-requires-2
+    begin-requires-3
+    sub-end
+    end-requires
+    end-requires-2
+    end-requires-3
+    returns
+    sub-t6
+    cast-t11
+    sub-t7
+    cast-t12
+    returns-2)

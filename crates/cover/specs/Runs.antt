@@ -1,0 +1,32 @@
+-- Runs of columns: a row's, and how much of it lies in a group.
+use Prim.Native.Nat.{ℕ, _+_, _≤_, _<_}
+use mathlib.Core.Path.{_≡_}
+use mathlib.Core.Bool.{Bool, _&&_}
+use lib.Dec.{ltb, leb}
+use Rattle.rules.specs.declared.Triangle.{Triangle}
+use Rattle.rules.specs.Turns.{choose}
+use Rattle.rules.specs.Triangles.{sample, insideAll}
+use Rattle.cover.specs.declared.Span.{Span}
+
+-- columns from `from` up to but not including `to`
+abbrev pub inRun : ℕ → ℕ → ℕ → Bool
+inRun from to x = leb from x && ltb x to
+
+-- of two marks, the one whose column is further right; one where the inside ends does not count
+abbrev pub begun : ℕ → Bool → ℕ → ℕ
+begun mark ends least = choose ends least (choose (ltb mark least) mark least)
+
+-- the one further left; one where the inside begins does not count
+abbrev pub ended : ℕ → Bool → ℕ → ℕ
+ended mark ends most = choose ends (choose (ltb most mark) mark most) most
+
+-- the first r leaves of the group that starts at column x, and no others, lie before column n
+pub record LeavesBefore (x n r : ℕ) : Type 0 where
+  pub few : r ≤ 16
+  pub these : (k : ℕ) → k < 16 → ltb k r ≡ ltb (x + k) n
+
+-- the pixels of row y inside all three edges, among the first w, are those of the columns r
+pub record RunOf (t : Triangle) (y w : ℕ) (r : Span) : Type 0 where
+  pub ordered : r .from ≤ r .to
+  pub limited : r .to ≤ w
+  pub run : (x : ℕ) → x < w → insideAll t (sample x y) ≡ inRun (r .from) (r .to) x
