@@ -3,7 +3,7 @@ use instructions::State;
 use instructions::Tree;
 use rules::Screen;
 ghost use mathlib.Core.Path.{_≡_};
-ghost use Rattle.border.specs.Lent.{isYes, numberOf, marksOf, bytesOf, treeOf, lentTree, stateOf, lentState};
+ghost use Rattle.border.specs.Lent.{numberOf, marksOf, bytesOf, treeOf, lentTree, stateOf, lentState};
 
 #[repr(C)]
 pub struct LentTree {

@@ -15,12 +15,12 @@ use Rattle.ints.proofs.Poly.{Exp, var, con, _⊕_, _⊖_, _⊗_, solve}
 use Rattle.ints.proofs.Order.{leZ-true, ltZ-true, ltZ-false, nonNeg-true, nonNeg-false, le-of, le-to, lt-to, mul-nonneg, pos-le}
 use Rattle.ints.proofs.Bounds.{Within, within-pos, within-range, within-lit, within-sub, within-mul, fits-32}
 use Rattle.rules.specs.Turns.{choose}
-use Rattle.rules.specs.Triangles.{Edge, dx, edge1, edge2, edge3, edgeValue, sampleOffset, sample, keepsZero, inside, positive, isZero, negative}
+use Rattle.rules.specs.Triangles.{Edge, dx, dy, edge1, edge2, edge3, edgeValue, sampleOffset, sample, keepsZero, inside, positive, isZero, negative}
 use Rattle.rules.specs.Numbers.{vertexInRange, verticesInRange}
 use Rattle.rules.specs.declared.Triangle.{Triangle}
-use Rattle.cover.specs.Side.{sided, slope, edgeFrom, edgeInRange}
+use Rattle.cover.specs.Side.{sided, edgeFrom, edgeInRange}
 
--- ---- inside is "not negative"
+-- inside is "not negative"
 
 lowered : (z : ℤ) (b : Bool) → (positive z || isZero z && b) ≡ nonNeg (z -ℤ choose b (pos 0) (pos 1))
 lowered (pos zero) true = refl
@@ -34,7 +34,7 @@ pub inside-sided : (e : Edge) (x y : ℕ) → inside e (sample x y) ≡ nonNeg (
 unfolding inside sided
 inside-sided e x y = lowered (edgeValue e (sample x y)) (keepsZero e)
 
--- ---- signs as the tests read them
+-- signs as the tests read them
 
 pub above : (z : ℤ) → ltZ (pos 0) z ≡ positive z
 above (pos zero) = refl
@@ -51,7 +51,7 @@ positive-true z h = ltZ-true (pos 0) z (above z ∙ h)
 pub positive-false : (z : ℤ) → positive z ≡ false → z ≤ℤ pos 0
 positive-false z h = ltZ-false (pos 0) z (above z ∙ h)
 
--- ---- an affine function of the pixel
+-- an affine function of the pixel
 
 abbrev edgeE : Exp → Exp → Exp
 edgeE px py = (py ⊖ var 1) ⊗ (var 2 ⊖ var 0) ⊖ (px ⊖ var 0) ⊗ (var 3 ⊖ var 1)
@@ -61,6 +61,10 @@ sampleE x = con (pos 8) ⊗ x ⊕ con (pos sampleOffset)
 
 abbrev slopeE : Exp
 slopeE = con (pos 0) ⊖ con (pos 8) ⊗ (var 3 ⊖ var 1)
+
+-- what a step of one pixel to the right adds
+abbrev pub slope : Edge → ℤ
+slope e = pos 0 -ℤ pos 8 *ℤ dy e
 
 pub sided-right : (e : Edge) (x k y : ℕ) → sided e (x + k) y ≡ sided e x y +ℤ slope e *ℤ pos k
 unfolding sided sample edgeValue
@@ -76,7 +80,7 @@ sided-down e x y =
     (edgeE (sampleE (var 4)) (sampleE (var 5 ⊕ con (pos 1))) ⊖ var 6)
     (edgeE (sampleE (var 4)) (sampleE (var 5)) ⊖ var 6 ⊕ con (pos 8) ⊗ (var 2 ⊖ var 0)) tt
 
--- ---- within 32 bits
+-- within 32 bits
 
 pub record EdgeWithin (e : Edge) : Type 0 where
   pub in-x1 : Within 8192 (e .x1)
@@ -111,18 +115,18 @@ loss-within false = within-lit tt
 
 module _ (e : Edge) (w : EdgeWithin e) where
   -- wherever in its pixel the sample point lies
-  pub value-within : (x y : ℕ) → x ≤ 656 → y ≤ 512 → Within 421756928 (edgeValue e (sample x y))
+  pub value-within : (x y : ℕ) → x ≤ 640 → y ≤ 512 → Within 419659776 (edgeValue e (sample x y))
   unfolding edgeValue sample
   value-within x y hx hy =
       within-sub
       (within-mul (within-sub (within-pos {n = 4103} (omega arith)) (w .in-y1)) (within-sub (w .in-x2) (w .in-x1)))
-      (within-mul (within-sub (within-pos {n = 5255} (omega arith)) (w .in-x1)) (within-sub (w .in-y2) (w .in-y1)))
+      (within-mul (within-sub (within-pos {n = 5127} (omega arith)) (w .in-x1)) (within-sub (w .in-y2) (w .in-y1)))
 
-  pub sided-within : (x y : ℕ) → x ≤ 656 → y ≤ 512 → Within 421756929 (sided e x y)
+  pub sided-within : (x y : ℕ) → x ≤ 640 → y ≤ 512 → Within 419659777 (sided e x y)
   unfolding sided
   sided-within x y hx hy = within-sub (value-within x y hx hy) (loss-within (keepsZero e))
 
--- ---- rising and falling
+-- rising and falling
 
 module _ (e : Edge) (x k y : ℕ) where
   pub rises : nonNeg (slope e) ≡ true → sided e x y ≤ℤ sided e (x + k) y
@@ -141,7 +145,7 @@ module _ (e : Edge) (x k y : ℕ) where
       (le-of ρ (var 0 ⊕ var 1 ⊗ var 2) (var 0)
       (omega (arith, le-to ρ (con (pos 0)) ((con (pos 0) ⊖ var 1) ⊗ var 2) (mul-nonneg n (pos-le (omega arith))))))
 
--- ---- the three edges of a triangle whose vertices are in range
+-- the three edges of a triangle whose vertices are in range
 
 pub record Six (t : Triangle) : Type 0 where
   pub in-x1 : vertexInRange (t .x1) ≡ true

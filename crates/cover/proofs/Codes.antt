@@ -3,13 +3,14 @@ use Prim.Native.Nat.{ℕ, _≤_}
 use mathlib.Core.Path.{_≡_, sym, _∙_, ap, subst}
 use mathlib.Core.Bool.{Bool, true}
 use native.Mathlib.Omega.{arith}
+use lib.Dec.{T}
 use lib.IntN.{ℤ, pos}
 use lib.Signed.{ltZ}
 use mir.Syntax.{w32, w64}
 use mir.Val.{SFits, toZ, ofZ}
 use mir.ValLaws.{toZ-ofZ}
 use Rattle.ints.proofs.Bounds.{Within}
-use Rattle.ints.proofs.Machine.{got-in, got-lit, Code, known, cast, _⊟_, _⊠_}
+use Rattle.ints.proofs.Machine.{got-in, got-lit, Code, known, cast, _⊟_, _⊠_, word-of, meant, fine, reads-as}
 use Rattle.rules.specs.Triangles.{Point, Edge, sampleOffset, sample, edgeValue, positive, negative}
 use Rattle.cover.specs.Side.{edgeInRange}
 use Rattle.cover.proofs.Along.{EdgeWithin, value-within, read, read-edge, above, below}
@@ -19,6 +20,10 @@ zeroC = known (got-lit w64 0 tt)
 
 abbrev pub offsetC : Code w64
 offsetC = known (got-lit w64 sampleOffset tt)
+
+-- -1 - z
+abbrev pub turnedC : Code w64 → Code w64
+turnedC z = known (got-lit w64 18446744073709551615 tt) ⊟ z
 
 abbrev pub eightC : Code w64
 eightC = known (got-lit w64 8 tt)
@@ -55,7 +60,7 @@ module _ (e : Edge) (w : EdgeWithin e) where
 
 -- an edge's value as `edge_value` answers it
 abbrev pub answeredC : (e : Edge) → EdgeWithin e → (x y : ℕ) → x ≤ 640 → y ≤ 512 → (z : ℤ) → z ≡ edgeValue e (sample x y) → Code w64
-answeredC e w x y hx hy z h = known (got-in {b = 421756928} (subst (Within 421756928) (sym h) (value-within e w x y (omega arith) hy)) tt)
+answeredC e w x y hx hy z h = known (got-in {b = 419659776} (subst (Within 419659776) (sym h) (value-within e w x y (omega arith) hy)) tt)
 
 -- of the edge that it reads
 pub answered : (e : Edge) (p : Point) {z : ℤ} → edgeInRange e ≡ true → z ≡ edgeValue (read e) p → z ≡ edgeValue e p
@@ -67,3 +72,7 @@ read-above z f h = sym (above z) ∙ ap (ltZ (pos 0)) (sym (toZ-ofZ w64 z f)) �
 
 pub read-below : (z : ℤ) {b : Bool} → SFits w64 z → ltZ (toZ w64 (ofZ w64 z)) (pos 0) ≡ b → negative z ≡ b
 read-below z f h = sym (below z) ∙ ap (λ (k : ℤ). ltZ k (pos 0)) (sym (toZ-ofZ w64 z f)) ∙ h
+
+-- a test of a computed number against 0
+pub code-above : (k : Code w64) (t : T (fine k)) {b : Bool} → ltZ (pos 0) (toZ w64 (word-of k)) ≡ b → positive (meant k) ≡ b
+code-above k t h = sym (above (meant k)) ∙ ap (ltZ (pos 0)) (sym (reads-as k t)) ∙ h

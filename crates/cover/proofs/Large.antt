@@ -1,4 +1,4 @@
--- Number 7 is never answered: with vertices in range and at most 640 by 512 pixels an edge value is within 421,756,928.
+-- Number 7 is never answered: with vertices in range and at most 640 by 512 pixels an edge value is within 419,659,776.
 use Prim.Native.Nat.{ℕ, _≤_}
 use mathlib.Core.Path.{_≡_, refl, _∙_, ap}
 use mathlib.Core.Bool.{Bool, true, false, _&&_, _||_, not}
@@ -17,7 +17,7 @@ use Rattle.rules.proofs.Turns.{pixels-none}
 use Rattle.cover.specs.Side.{edgeInRange}
 use Rattle.cover.proofs.Along.{edge-within, value-within, edges-in-range, read, read-in-range}
 
--- ---- the range as two tests
+-- the range as two tests
 
 either : (a b : Bool) → not (a && b) ≡ not a || not b
 either true b = refl
@@ -27,9 +27,9 @@ pub out-of-range : (z : ℤ) → not (inSigned32 z) ≡ ltZ z (negsuc 2147483647
 out-of-range (pos n) = not-leb n 2147483647
 out-of-range (negsuc n) = rw (either (leb n 2147483647) true, not-leb n 2147483647)
 
--- ---- never
+-- never
 
-small : (z : ℤ) → Within 421756928 z → not (inSigned32 z) ≡ false
+small : (z : ℤ) → Within 419659776 z → not (inSigned32 z) ≡ false
 small (pos n) h = rw (le-leb n 2147483647 (omega (arith, h .within)))
 small (negsuc n) h = rw (le-leb n 2147483647 (omega (arith, h .within)))
 
@@ -56,7 +56,7 @@ triangle-never-too-large t r w h hw hh =
     let hy : y ≤ 512 = omega arith in
     neither (neither (never-too-large (edge1 t) r1 x y hx hy) (never-too-large (edge2 t) r2 x y hx hy)) (never-too-large (edge3 t) r3 x y hx hy)))
 
--- ---- what a caller learns, of an edge that the callee reads from the machine's words
+-- what a caller learns, of an edge that the callee reads from the machine's words
 
 module _ (e : Edge) (r : edgeInRange e ≡ true) {b : Bool} where
   pub pixel-answer : {x y : ℕ} → b ≡ edgeTooLarge (read e) x y → x ≤ 640 → y ≤ 512 → b ≡ false

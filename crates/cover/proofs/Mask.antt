@@ -2,7 +2,7 @@
 -- the mask of a run is the difference of two powers of two.
 use Prim.Native.Nat.{ℕ, zero, suc, _+_, _*_, _-_, _/_, _^_, _≤_, _<_}
 use mathlib.Core.Path.{_≡_, refl, sym, _∙_, ap, ap₂}
-use mathlib.Core.Bool.{Bool, true, false, not, _&&_, Bool·not-not}
+use mathlib.Core.Bool.{Bool, true, false, not, _&&_}
 use native.Mathlib.Nat.{pow-suc}
 use native.Mathlib.Omega.{arith}
 use lib.Dec.{ltb, leb}
@@ -10,7 +10,7 @@ use lib.Count.{ones, onesIn, ones-cat}
 use lib.Pow.{pow-mono, pow-add, shl-shr}
 use borrow.Author.Tests.{ltb-true, ltb-false, leb-true, leb-false}
 use Rattle.rules.specs.Turns.{bit, howMany}
-use Rattle.rules.proofs.Choices.{bit-le, not-leb}
+use Rattle.rules.proofs.Choices.{bit-le, leb-not}
 use Rattle.cover.specs.Mask.{maskOf}
 use Rattle.cover.specs.Runs.{inRun, LeavesBefore}
 use Rattle.cover.proofs.Columns.{run-empty}
@@ -48,12 +48,12 @@ module _ (f : ℕ → Bool) where
   mask-same g zero h = refl
   mask-same g (suc k) h = rw (mask-same g k (λ i l. h i (omega arith)), h k (omega arith))
 
-  pub mask-empty : (k : ℕ) → ((i : ℕ) → i < k → f i ≡ false) → maskOf f k ≡ 0
+  mask-empty : (k : ℕ) → ((i : ℕ) → i < k → f i ≡ false) → maskOf f k ≡ 0
   unfolding maskOf
   mask-empty zero h = refl
   mask-empty (suc k) h = rw (mask-empty k (λ i l. h i (omega arith)), h k (omega arith))
 
--- 2 ^ (n - k) counts the leaves from k on of n: one more doubles it once k is reached, and before that it is 1
+-- 2 ^ (n - k) is one more than the mask of the leaves from k on: one leaf more doubles it once k is reached, and before that it is 1
 from-on : (n k : ℕ) → k ≤ n → 2 ^ (suc n - k) ≡ 2 ^ (n - k) * 2
 from-on n k h =
     let e : suc n - k ≡ suc (n - k) = omega arith in
@@ -80,7 +80,7 @@ run-more lo hi n m o false true p q h =
 run-more lo hi n m o false false p q h = absurd (omega (arith, leb-false lo n p, ltb-false n hi q))
 
 -- the leaves from lo on, less those from hi on
-pub mask-run : (lo hi n : ℕ) → lo ≤ hi → maskOf (inRun lo hi) n + 2 ^ (n - hi) ≡ 2 ^ (n - lo)
+mask-run : (lo hi n : ℕ) → lo ≤ hi → maskOf (inRun lo hi) n + 2 ^ (n - hi) ≡ 2 ^ (n - lo)
 unfolding maskOf
 mask-run lo hi zero o = omega (arith, not-yet 0 hi (omega arith), not-yet 0 lo (omega arith))
 mask-run lo hi (suc n) o = run-more lo hi n (maskOf (inRun lo hi) n) o (leb lo n) (ltb n hi) refl refl (mask-run lo hi n o)
@@ -92,12 +92,9 @@ shifted k h =
     let p : 65536 ≡ 2 ^ (16 - k) * 2 ^ k = sym (ap (λ (i : ℕ). 2 ^ i) e) ∙ pow-add 2 (16 - k) k in
     ap (λ (i : ℕ). i / 2 ^ k) p ∙ shl-shr (2 ^ (16 - k)) k
 
-leb-not : (a b : ℕ) → leb a b ≡ not (ltb b a)
-leb-not a b = sym (Bool·not-not (leb a b)) ∙ ap not (not-leb a b)
-
 -- the run in a group, by the leaves before its two ends
 module _ {x from to first past : ℕ} (f : LeavesBefore x from first) (p : LeavesBefore x to past) where
-  pub mask-part : maskOf (λ k. inRun from to (x + k)) 16 ≡ maskOf (inRun first past) 16
+  mask-part : maskOf (λ k. inRun from to (x + k)) 16 ≡ maskOf (inRun first past) 16
   mask-part =
       mask-same (λ k. inRun from to (x + k)) (inRun first past) 16
       (λ k h. ap₂ _&&_ (leb-not from (x + k) ∙ ap not (sym (f .these k h)) ∙ sym (leb-not first k)) (sym (p .these k h)))
@@ -105,6 +102,5 @@ module _ {x from to first past : ℕ} (f : LeavesBefore x from first) (p : Leave
   pub part-empty : past ≤ first → maskOf (λ k. inRun from to (x + k)) 16 ≡ 0
   part-empty o = mask-part ∙ mask-empty (inRun first past) 16 (λ k h. run-empty first past k o)
 
-  -- 2^16 shifted by the leaves before an end has the leaves from it on
   pub part-some : first ≤ past → maskOf (λ k. inRun from to (x + k)) 16 + 65536 / 2 ^ past ≡ 65536 / 2 ^ first
   part-some o = omega (arith, mask-part, mask-run first past 16 o, shifted first (f .few), shifted past (p .few))

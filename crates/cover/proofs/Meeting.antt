@@ -18,7 +18,7 @@ use Rattle.cover.specs.Runs.{begun, ended, RunOf}
 use Rattle.cover.proofs.Turning.{mark-inside}
 use Rattle.cover.proofs.Columns.{run-beyond}
 
--- ---- of two marks
+-- of two marks
 
 lesser : (r a b : ℕ) → a ≤ b → leb r a ≡ leb r a && leb r b
 lesser r a b h = go (leb r a) refl
@@ -77,25 +77,25 @@ ended-ge m true g = go (ltb g m) refl
     go true h = omega (arith, ltb-true g m h)
     go false h = omega arith
 
--- ---- of the three edges
+-- of the three edges
 
 abbrev pub leastOf : Marks → Sides → ℕ
-leastOf m d = begun (m .p .count) (d .p .ends) (begun (m .q .count) (d .q .ends) (begun (m .r .count) (d .r .ends) raise))
+leastOf m d = begun (m .p .quotient) (d .p .ends) (begun (m .q .quotient) (d .q .ends) (begun (m .r .quotient) (d .r .ends) raise))
 
 abbrev pub mostOf : Marks → Sides → ℕ → ℕ
-mostOf m d w = ended (m .p .count) (d .p .ends) (ended (m .q .count) (d .q .ends) (ended (m .r .count) (d .r .ends) (raise - w)))
+mostOf m d w = ended (m .p .quotient) (d .p .ends) (ended (m .q .quotient) (d .q .ends) (ended (m .r .quotient) (d .r .ends) (raise - w)))
 
 pub least-le : (m : Marks) (d : Sides) → leastOf m d ≤ raise
 least-le m d =
-    let c = begun (m .r .count) (d .r .ends) raise in
-    let b = begun (m .q .count) (d .q .ends) c in
-    omega (arith, begun-le (m .r .count) (d .r .ends) raise, begun-le (m .q .count) (d .q .ends) c, begun-le (m .p .count) (d .p .ends) b)
+    let c = begun (m .r .quotient) (d .r .ends) raise in
+    let b = begun (m .q .quotient) (d .q .ends) c in
+    omega (arith, begun-le (m .r .quotient) (d .r .ends) raise, begun-le (m .q .quotient) (d .q .ends) c, begun-le (m .p .quotient) (d .p .ends) b)
 
 pub most-ge : (m : Marks) (d : Sides) (w : ℕ) → raise - w ≤ mostOf m d w
 most-ge m d w =
-    let c = ended (m .r .count) (d .r .ends) (raise - w) in
-    let b = ended (m .q .count) (d .q .ends) c in
-    omega (arith, ended-ge (m .r .count) (d .r .ends) (raise - w), ended-ge (m .q .count) (d .q .ends) c, ended-ge (m .p .count) (d .p .ends) b)
+    let c = ended (m .r .quotient) (d .r .ends) (raise - w) in
+    let b = ended (m .q .quotient) (d .q .ends) c in
+    omega (arith, ended-ge (m .r .quotient) (d .r .ends) (raise - w), ended-ge (m .q .quotient) (d .q .ends) c, ended-ge (m .p .quotient) (d .p .ends) b)
 
 -- an edge's inside, as what it asks of the beginning and what it asks of the end
 asked : (e l g : Bool) → choose e g l ≡ (e || l) && (not e || g)
@@ -104,11 +104,11 @@ asked false true g = refl
 asked false false g = refl
 
 edge-asks : (e : Edge) (d : Side) (y : ℕ) (m : Part) → SideOf e d → MarkOf e y (d .across) m → (x : ℕ) → x < 1024
-    → inside e (sample x y) ≡ (d .ends || leb raise (x + m .count)) && (not (d .ends) || ltb (x + m .count) raise)
+    → inside e (sample x y) ≡ (d .ends || leb raise (x + m .quotient)) && (not (d .ends) || ltb (x + m .quotient) raise)
 edge-asks e d y m o h x l =
     mark-inside e y (d .across) m (o .is-across) h x l
-    ∙ ap (λ (b : Bool). choose b (ltb (x + m .count) raise) (leb raise (x + m .count))) (sym (o .is-ends))
-    ∙ asked (d .ends) (leb raise (x + m .count)) (ltb (x + m .count) raise)
+    ∙ ap (λ (b : Bool). choose b (ltb (x + m .quotient) raise) (leb raise (x + m .quotient))) (sym (o .is-ends))
+    ∙ asked (d .ends) (leb raise (x + m .quotient)) (ltb (x + m .quotient) raise)
 
 sorted : (a₁ b₁ a₂ b₂ a₃ b₃ : Bool)
     → ((a₁ && b₁) && (a₂ && b₂)) && (a₃ && b₃) ≡ (a₁ && (a₂ && (a₃ && true))) && (b₁ && (b₂ && (b₃ && true)))
@@ -128,29 +128,29 @@ module _ (t : Triangle) (y : ℕ) (d : Sides) (m : Marks) (o : SidesOf t d) (h :
   unfolding insideAll
   all-inside x l =
       let n : x < 1024 = omega arith in
-      let c = begun (m .r .count) (d .r .ends) raise in
-      let f = ended (m .r .count) (d .r .ends) (raise - w) in
+      let c = begun (m .r .quotient) (d .r .ends) raise in
+      let f = ended (m .r .quotient) (d .r .ends) (raise - w) in
       let first : leb raise (x + raise) ≡ true = le-leb raise (x + raise) (omega arith) in
       let last : ltb (x + (raise - w)) raise ≡ true = lt-ltb (x + (raise - w)) raise (omega arith) in
       ap₂ _&&_
       (ap₂ _&&_ (edge-asks (edge1 t) (d .p) y (m .p) (o .of1) (h .of1) x n) (edge-asks (edge2 t) (d .q) y (m .q) (o .of2) (h .of2) x n))
       (edge-asks (edge3 t) (d .r) y (m .r) (o .of3) (h .of3) x n)
-      ∙ sorted (d .p .ends || leb raise (x + m .p .count)) (not (d .p .ends) || ltb (x + m .p .count) raise)
-      (d .q .ends || leb raise (x + m .q .count)) (not (d .q .ends) || ltb (x + m .q .count) raise)
-      (d .r .ends || leb raise (x + m .r .count)) (not (d .r .ends) || ltb (x + m .r .count) raise)
+      ∙ sorted (d .p .ends || leb raise (x + m .p .quotient)) (not (d .p .ends) || ltb (x + m .p .quotient) raise)
+      (d .q .ends || leb raise (x + m .q .quotient)) (not (d .q .ends) || ltb (x + m .q .quotient) raise)
+      (d .r .ends || leb raise (x + m .r .quotient)) (not (d .r .ends) || ltb (x + m .r .quotient) raise)
       ∙ ap₂ _&&_
       (sym
-      (begun-at x (m .p .count) (d .p .ends) (begun (m .q .count) (d .q .ends) c)
-      ∙ ap (λ (u : Bool). (d .p .ends || leb raise (x + m .p .count)) && u)
-      (begun-at x (m .q .count) (d .q .ends) c
-      ∙ ap (λ (u : Bool). (d .q .ends || leb raise (x + m .q .count)) && u)
-      (begun-at x (m .r .count) (d .r .ends) raise ∙ ap (λ (u : Bool). (d .r .ends || leb raise (x + m .r .count)) && u) first))))
+      (begun-at x (m .p .quotient) (d .p .ends) (begun (m .q .quotient) (d .q .ends) c)
+      ∙ ap (λ (u : Bool). (d .p .ends || leb raise (x + m .p .quotient)) && u)
+      (begun-at x (m .q .quotient) (d .q .ends) c
+      ∙ ap (λ (u : Bool). (d .q .ends || leb raise (x + m .q .quotient)) && u)
+      (begun-at x (m .r .quotient) (d .r .ends) raise ∙ ap (λ (u : Bool). (d .r .ends || leb raise (x + m .r .quotient)) && u) first))))
       (sym
-      (ended-at x (m .p .count) (d .p .ends) (ended (m .q .count) (d .q .ends) f)
-      ∙ ap (λ (u : Bool). (not (d .p .ends) || ltb (x + m .p .count) raise) && u)
-      (ended-at x (m .q .count) (d .q .ends) f
-      ∙ ap (λ (u : Bool). (not (d .q .ends) || ltb (x + m .q .count) raise) && u)
-      (ended-at x (m .r .count) (d .r .ends) (raise - w) ∙ ap (λ (u : Bool). (not (d .r .ends) || ltb (x + m .r .count) raise) && u) last))))
+      (ended-at x (m .p .quotient) (d .p .ends) (ended (m .q .quotient) (d .q .ends) f)
+      ∙ ap (λ (u : Bool). (not (d .p .ends) || ltb (x + m .p .quotient) raise) && u)
+      (ended-at x (m .q .quotient) (d .q .ends) f
+      ∙ ap (λ (u : Bool). (not (d .q .ends) || ltb (x + m .q .quotient) raise) && u)
+      (ended-at x (m .r .quotient) (d .r .ends) (raise - w) ∙ ap (λ (u : Bool). (not (d .r .ends) || ltb (x + m .r .quotient) raise) && u) last))))
 
   -- no column is both from the beginning on and before the end
   pub run-none : leastOf m d ≤ mostOf m d w → RunOf t y w (record { from = 0; to = 0 })

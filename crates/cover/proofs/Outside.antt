@@ -14,7 +14,7 @@ use Rattle.rules.specs.declared.Triangle.{Triangle}
 use Rattle.rules.specs.Triangles.{Edge, Point, dx, dy, edge1, edge2, edge3, edgeValue, inside, insideAll, keepsZero, positive, isZero, negative}
 use Rattle.cover.proofs.Along.{and-true}
 
--- ---- one edge
+-- one edge
 
 inside-le : (z : ℤ) (b : Bool) → positive z || isZero z && b ≡ true → pos 0 ≤ℤ z
 inside-le (pos n) b h = pos-le (omega arith)
@@ -45,7 +45,7 @@ module _ (e : Edge) (p : Point) (h : inside e p ≡ true) where
   unfolding inside
   zero-kept = inside-zero (edgeValue e p) (keepsZero e) h
 
--- ---- three edges that close
+-- three edges that close
 
 module _ (t : Triangle) where
   abbrev ρ : List ℤ
@@ -86,7 +86,7 @@ module _ (t : Triangle) where
         go true h = absurd (unweighed h)
         go false h = refl
 
--- ---- the two sides
+-- the two sides
 
 abbrev edgeE : Exp → Exp → Exp → Exp → Exp
 edgeE a b c d = (var 7 ⊖ b) ⊗ (c ⊖ a) ⊖ (var 6 ⊖ a) ⊗ (d ⊖ b)

@@ -21,11 +21,11 @@ use Rattle.cover.specs.declared.Side.{Side}
 use Rattle.cover.specs.declared.Sides.{Sides}
 use Rattle.cover.specs.declared.Marks.{Marks}
 use Rattle.cover.specs.Parts.{raise, Parted, partSum, Addable}
-use Rattle.cover.specs.Side.{sided, slope, rising, acrossOf, downOf, SideOf, SidesOf, MarkOf, MarksOf, Below}
-use Rattle.cover.proofs.Along.{inside-sided, positive-true, positive-false, sided-right, sided-down, EdgeWithin, edge-within, edges-in-range, sided-within}
+use Rattle.cover.specs.Side.{sided, rising, acrossOf, downOf, SideOf, SidesOf, MarkOf, MarksOf, CanGoBelow}
+use Rattle.cover.proofs.Along.{inside-sided, slope, positive-true, positive-false, sided-right, sided-down, EdgeWithin, edge-within, edges-in-range, sided-within}
 use Rattle.cover.proofs.Quotients.{parted-turns, parted-sum, addable}
 
--- ---- signs
+-- signs
 
 -- a column below 1,024 does not turn 1,024 times a whole number
 scaled : (z : ℤ) (x : ℕ) → x < 1024 → nonNeg (pos 1024 *ℤ z +ℤ pos x) ≡ nonNeg z
@@ -56,7 +56,7 @@ turned z = go (nonNeg z) refl
         le-nonNeg (negsuc 0 -ℤ z)
         (le-of ρ (con (pos 0)) (con (negsuc 0) ⊖ var 0) (omega (arith, lt-to ρ (var 0) (con (pos 0)) (nonNeg-false z e))))
 
--- ---- along a row and down a column
+-- along a row and down a column
 
 module _ (e : Edge) (x y : ℕ) where
   across-row : sided e x y ≡ sided e 0 y +ℤ slope e *ℤ pos x
@@ -93,10 +93,10 @@ lower e y false =
     (con (pos 1024) ⊗ var 0 ⊕ con (pos 8192) ⊗ var 1)
     (con (pos 1024) ⊗ (var 0 ⊕ con (pos 8) ⊗ var 1)) tt)
 
--- ---- the mark
+-- the mark
 
 module _ (e : Edge) (y a : ℕ) (m : Part) (s : pos a ≡ acrossOf (dy e)) (h : MarkOf e y a m) where
-  rises-at : (x : ℕ) → x < 1024 → nonNeg (rising e x y) ≡ leb raise (x + m .count)
+  rises-at : (x : ℕ) → x < 1024 → nonNeg (rising e x y) ≡ leb raise (x + m .quotient)
   rises-at x l =
       sym (scaled (rising e x y) x l)
       ∙ ap nonNeg (along e x y (positive (dy e)) ∙ ap (λ (z : ℤ). pos 1024 *ℤ rising e 0 y +ℤ z *ℤ pos x) (sym s))
@@ -104,15 +104,15 @@ module _ (e : Edge) (y a : ℕ) (m : Part) (s : pos a ≡ acrossOf (dy e)) (h : 
 
   -- from the mark on, or up to it
   pub mark-inside : (x : ℕ) → x < 1024
-      → inside e (sample x y) ≡ choose (positive (dy e)) (ltb (x + m .count) raise) (leb raise (x + m .count))
+      → inside e (sample x y) ≡ choose (positive (dy e)) (ltb (x + m .quotient) raise) (leb raise (x + m .quotient))
   mark-inside x l = inside-sided e x y ∙ go (positive (dy e)) refl
     where
-      go : (b : Bool) → positive (dy e) ≡ b → nonNeg (sided e x y) ≡ choose b (ltb (x + m .count) raise) (leb raise (x + m .count))
+      go : (b : Bool) → positive (dy e) ≡ b → nonNeg (sided e x y) ≡ choose b (ltb (x + m .quotient) raise) (leb raise (x + m .quotient))
       go true k =
-          let r : nonNeg (negsuc 0 -ℤ sided e x y) ≡ leb raise (x + m .count) =
-          subst (λ (b : Bool). nonNeg (choose b (negsuc 0 -ℤ sided e x y) (sided e x y)) ≡ leb raise (x + m .count)) k (rises-at x l) in
-          sym (Bool·not-not (nonNeg (sided e x y))) ∙ ap not (sym (turned (sided e x y)) ∙ r) ∙ not-leb raise (x + m .count)
-      go false k = subst (λ (b : Bool). nonNeg (choose b (negsuc 0 -ℤ sided e x y) (sided e x y)) ≡ leb raise (x + m .count)) k (rises-at x l)
+          let r : nonNeg (negsuc 0 -ℤ sided e x y) ≡ leb raise (x + m .quotient) =
+          subst (λ (b : Bool). nonNeg (choose b (negsuc 0 -ℤ sided e x y) (sided e x y)) ≡ leb raise (x + m .quotient)) k (rises-at x l) in
+          sym (Bool·not-not (nonNeg (sided e x y))) ∙ ap not (sym (turned (sided e x y)) ∙ r) ∙ not-leb raise (x + m .quotient)
+      go false k = subst (λ (b : Bool). nonNeg (choose b (negsuc 0 -ℤ sided e x y) (sided e x y)) ≡ leb raise (x + m .quotient)) k (rises-at x l)
 
 -- a row down
 pub mark-below : (e : Edge) (y : ℕ) (d : Side) (m : Part) → SideOf e d → MarkOf e y (d .across) m → Addable (d .across) m (d .down)
@@ -121,13 +121,13 @@ mark-below e y d m o h k =
     subst (λ (z : ℤ). Parted z (d .across) (partSum (d .across) m (d .down))) (lower e y (positive (dy e)))
     (parted-sum h (o .is-down) (k .low))
 
--- ---- bounds
+-- bounds
 
 rising-either : {z : ℤ} {n : ℕ} (b : Bool) → Within n z → Within (1 + n) (choose b (negsuc 0 -ℤ z) z)
 rising-either true w = within-sub (within-lit {n = 1} {z = negsuc 0} tt) w
 rising-either false w = within-le (omega arith) w
 
-pub rising-within : (e : Edge) → EdgeWithin e → (y : ℕ) → y ≤ 512 → Within 421756930 (rising e 0 y)
+pub rising-within : (e : Edge) → EdgeWithin e → (y : ℕ) → y ≤ 512 → Within 419659778 (rising e 0 y)
 rising-within e w y h = rising-either (positive (dy e)) (sided-within e w 0 y (omega arith) h)
 
 pub down-within : (x y : ℤ) → Within 16384 x → Within 134217728 (downOf x y)
@@ -145,11 +145,8 @@ module _ (z : ℤ) {a : ℕ} (h : pos a ≡ acrossOf z) where
   abbrev ρ : List ℤ
   ρ = z ∷ pos a ∷ []
 
-  upward : positive z ≡ true → pos a ≡ pos 8192 *ℤ z +ℤ pos 1
-  upward e = subst (λ (b : Bool). pos a ≡ choose b (pos 8192 *ℤ z +ℤ pos 1) (pos 1 -ℤ pos 8192 *ℤ z)) e h
-
-  downward : positive z ≡ false → pos a ≡ pos 1 -ℤ pos 8192 *ℤ z
-  downward e = subst (λ (b : Bool). pos a ≡ choose b (pos 8192 *ℤ z +ℤ pos 1) (pos 1 -ℤ pos 8192 *ℤ z)) e h
+  signed : (b : Bool) → positive z ≡ b → pos a ≡ choose b (pos 8192 *ℤ z +ℤ pos 1) (pos 1 -ℤ pos 8192 *ℤ z)
+  signed b e = subst (λ (c : Bool). pos a ≡ choose c (pos 8192 *ℤ z +ℤ pos 1) (pos 1 -ℤ pos 8192 *ℤ z)) e h
 
   pub across-least : 1 ≤ a
   across-least = go (positive z) refl
@@ -158,44 +155,44 @@ module _ (z : ℤ) {a : ℕ} (h : pos a ≡ acrossOf z) where
       go true e =
           omega (
             arith,
-            eq-to ρ (var 1) (con (pos 8192) ⊗ var 0 ⊕ con (pos 1)) (upward e),
+            eq-to ρ (var 1) (con (pos 8192) ⊗ var 0 ⊕ con (pos 1)) (signed true e),
             lt-to ρ (con (pos 0)) (var 0) (positive-true z e),
           )
       go false e =
           omega (
             arith,
-            eq-to ρ (var 1) (con (pos 1) ⊖ con (pos 8192) ⊗ var 0) (downward e),
+            eq-to ρ (var 1) (con (pos 1) ⊖ con (pos 8192) ⊗ var 0) (signed false e),
             le-to ρ (var 0) (con (pos 0)) (positive-false z e),
           )
 
-  pub across-most : Within 16384 z → a ≤ raise
+  across-most : Within 16384 z → a ≤ raise
   across-most w = go (positive z) refl
     where
       go : (b : Bool) → positive z ≡ b → a ≤ raise
       go true e =
           omega (
             arith,
-            eq-to ρ (var 1) (con (pos 8192) ⊗ var 0 ⊕ con (pos 1)) (upward e),
+            eq-to ρ (var 1) (con (pos 8192) ⊗ var 0 ⊕ con (pos 1)) (signed true e),
             le-to ρ (var 0) (con (pos 16384)) (within-hi w),
           )
       go false e =
           omega (
             arith,
-            eq-to ρ (var 1) (con (pos 1) ⊖ con (pos 8192) ⊗ var 0) (downward e),
+            eq-to ρ (var 1) (con (pos 1) ⊖ con (pos 8192) ⊗ var 0) (signed false e),
             le-to ρ (con (negℤ (pos 16384))) (var 0) (within-lo w),
           )
 
 -- an edge's mark can be taken a row down
-pub can-go-below : (e : Edge) → EdgeWithin e → (y : ℕ) → y ≤ 512 → (d : Side) (m : Part) → SideOf e d → MarkOf e y (d .across) m
+can-go-below : (e : Edge) → EdgeWithin e → (y : ℕ) → y ≤ 512 → (d : Side) (m : Part) → SideOf e d → MarkOf e y (d .across) m
     → Addable (d .across) m (d .down)
 can-go-below e w y h d m o k =
-    addable k (o .is-down)
+    addable 429731612672 134217728 k (o .is-down)
     (within-mul (within-lit {n = 1024} {z = pos 1024} tt) (rising-within e w y h))
     (down-within (dx e) (dy e) (within-sub (w .in-x2) (w .in-x1)))
-    (across-most (dy e) (o .is-across) (within-sub (w .in-y2) (w .in-y1)))
+    (omega arith) (across-most (dy e) (o .is-across) (within-sub (w .in-y2) (w .in-y1)))
 
 pub marks-can-go-below : (t : Triangle) → verticesInRange t ≡ true → (y : ℕ) → y ≤ 512 → (d : Sides) (m : Marks) → SidesOf t d → MarksOf t y d m
-    → Below m d
+    → CanGoBelow m d
 marks-can-go-below t r y h d m o k =
     let e = edges-in-range t r in
     record {

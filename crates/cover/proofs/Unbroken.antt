@@ -1,4 +1,4 @@
--- In a row the pixels inside an edge, and so the covered ones, have no gap: along a row an edge value only rises or only falls.
+-- In a row the covered pixels have no gap, said of any triangle and screen: along a row an edge value only rises or only falls.
 use Prim.Native.Nat.{ℕ, _+_, _-_, _≤_, _<_}
 use mathlib.Core.Path.{_≡_, refl, sym, _∙_, subst}
 use mathlib.Core.Bool.{Bool, true, false, _&&_}
@@ -12,8 +12,8 @@ use Rattle.rules.specs.declared.Screen.{Screen}
 use Rattle.rules.specs.declared.Triangle.{Triangle}
 use Rattle.rules.specs.Sizes.{width}
 use Rattle.rules.specs.Triangles.{Edge, edge1, edge2, edge3, sample, inside, insideAll, covered, onScreen}
-use Rattle.cover.specs.Side.{sided, slope}
-use Rattle.cover.proofs.Along.{and-true, inside-sided, rises, falls}
+use Rattle.cover.specs.Side.{sided}
+use Rattle.cover.proofs.Along.{and-true, inside-sided, slope, rises, falls}
 
 module _ (e : Edge) (a b c y : ℕ) (h : a ≤ b) (k : b ≤ c) where
   edge-between : inside e (sample a y) ≡ true → inside e (sample c y) ≡ true → inside e (sample b y) ≡ true

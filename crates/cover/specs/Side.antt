@@ -24,10 +24,6 @@ edgeInRange e = vertexInRange (e .x1) && vertexInRange (e .y1) && vertexInRange 
 unfoldable pub sided : Edge → ℕ → ℕ → ℤ
 sided e x y = edgeValue e (sample x y) -ℤ choose (keepsZero e) (pos 0) (pos 1)
 
--- what a step of one pixel to the right adds
-abbrev pub slope : Edge → ℤ
-slope e = pos 0 -ℤ pos 8 *ℤ dy e
-
 -- where it falls to the right, the sign is turned: then it is not negative outside
 abbrev pub rising : Edge → ℕ → ℕ → ℤ
 rising e x y = choose (positive (dy e)) (negsuc 0 -ℤ sided e x y) (sided e x y)
@@ -49,7 +45,7 @@ pub record SidesOf (t : Triangle) (d : Sides) : Type 0 where
   pub of2 : SideOf (edge2 t) (d .q)
   pub of3 : SideOf (edge3 t) (d .r)
 
--- the value at the start of row y
+-- 1,024 times the rising value at the start of row y, parted by a
 abbrev pub MarkOf : Edge → ℕ → ℕ → Part → Type 0
 MarkOf e y a m = Parted (pos 1024 *ℤ rising e 0 y) a m
 
@@ -59,7 +55,7 @@ pub record MarksOf (t : Triangle) (y : ℕ) (d : Sides) (m : Marks) : Type 0 whe
   pub of3 : MarkOf (edge3 t) y (d .r .across) (m .r)
 
 -- marks that can be taken a row down
-pub record Below (m : Marks) (d : Sides) : Type 0 where
+pub record CanGoBelow (m : Marks) (d : Sides) : Type 0 where
   pub first : Addable (d .p .across) (m .p) (d .p .down)
   pub second : Addable (d .q .across) (m .q) (d .q .down)
   pub third : Addable (d .r .across) (m .r) (d .r .down)

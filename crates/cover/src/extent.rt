@@ -1,4 +1,4 @@
-// Which columns or rows a triangle can touch.
+// Which rows a triangle can touch.
 ghost use mathlib.Core.Path.{_≡_};
 ghost use mathlib.Core.Bool.{true};
 ghost use Prim.Native.Nat.{ℕ, _≤_, _<_};
@@ -10,7 +10,6 @@ ghost use Rattle.cover.specs.Extent.{Before, Beyond};
 fn raised(v: i32) -> u32
     requires { ⌜ vertexInRange v ≡ true ⌝ }
     ensures { λ r. ⌜ pos r ≡ v +ℤ pos 8192 ⌝ }
-    ensures { λ r. ⌜ r ≤ 16384 ⌝ }
 {
     (v as i64 + 8192) as u32
 }
@@ -33,8 +32,7 @@ fn least(a: u32, b: u32, c: u32) -> u32
 
 // A number that is at least each of the three.
 fn greatest(a: u32, b: u32, c: u32) -> u32
-    requires { ⌜ (a ≤ 16384) × (b ≤ 16384) × (c ≤ 16384) ⌝ }
-    ensures { λ r. ⌜ (a ≤ r) × (b ≤ r) × (c ≤ r) × (r ≤ 16384) ⌝ }
+    ensures { λ r. ⌜ (a ≤ r) × (b ≤ r) × (c ≤ r) ⌝ }
 {
     if b <= a {
         if c <= a {
@@ -48,7 +46,7 @@ fn greatest(a: u32, b: u32, c: u32) -> u32
     c
 }
 
-// All columns (or rows) below this one lie wholly before the three numbers.
+// All rows before this one lie wholly before the three numbers.
 pub fn first_touched(a: i32, b: i32, c: i32) -> u32
     requires { ⌜ (vertexInRange a ≡ true) × (vertexInRange b ≡ true) × (vertexInRange c ≡ true) ⌝ }
     ensures { λ r. ⌜ ((k : ℕ) → k < r → Before a b c k) ⌝ }
@@ -60,11 +58,10 @@ pub fn first_touched(a: i32, b: i32, c: i32) -> u32
     (low - 8192) / 8
 }
 
-// This column (or row) and all after it lie wholly beyond the three numbers.
+// This row and all after it lie wholly beyond the three numbers.
 pub fn past_touched(a: i32, b: i32, c: i32) -> u32
     requires { ⌜ (vertexInRange a ≡ true) × (vertexInRange b ≡ true) × (vertexInRange c ≡ true) ⌝ }
     ensures { λ r. ⌜ ((k : ℕ) → r ≤ k → Beyond a b c k) ⌝ }
-    ensures { λ r. ⌜ r ≤ 1025 ⌝ }
 {
     let high = greatest(raised(a), raised(b), raised(c));
     if high < 8192 {

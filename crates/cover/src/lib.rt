@@ -8,12 +8,11 @@ pub mod setup;
 
 // A number parted by a divisor: the quotient, raised by 2^40, and the rest.
 pub struct Part {
-    pub count: u64,
+    pub quotient: u64,
     pub rest: u64,
 }
 
-// One edge, ready for stepping. Its lowered value is taken with the sign that makes it rise along a row, 1,024 times, and the column is added:
-// `across` is what one column adds then, and `down` what one row does, parted by `across`. `ends` says that going right the inside ends.
+// One edge: what a column and a row add to 1,024 times its rising value with the column added; `ends`: going right the inside ends.
 pub struct Side {
     pub across: u64,
     pub down: Part,
@@ -27,7 +26,7 @@ pub struct Sides {
     pub r: Side,
 }
 
-// For each edge its value at the start of a row, parted by its step across: the quotient marks the column where the value turns.
+// Each edge's value at the start of a row, parted by its step across: the quotient marks the column where it turns.
 pub struct Marks {
     pub p: Part,
     pub q: Part,

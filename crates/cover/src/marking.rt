@@ -13,7 +13,7 @@ ghost use lib.IntN.{pos};
 ghost use Rattle.rules.specs.declared.Triangle.{Triangle};
 ghost use Rattle.rules.specs.Triangles.{dy};
 ghost use Rattle.rules.specs.Numbers.{verticesInRange};
-ghost use Rattle.cover.specs.Side.{edgeFrom, edgeInRange, acrossOf, SidesOf, MarkOf, MarksOf, Below};
+ghost use Rattle.cover.specs.Side.{edgeFrom, edgeInRange, acrossOf, SidesOf, MarkOf, MarksOf, CanGoBelow};
 
 // An edge's mark in row y.
 fn mark(x1: i32, y1: i32, x2: i32, y2: i32, y: u32, across: u64) -> Part
@@ -37,7 +37,7 @@ pub fn marks_at(t: Triangle, d: Sides, y: u32) -> Marks
 
 // The marks in the row below.
 pub fn marks_below(m: Marks, d: Sides) -> Marks
-    requires { ⌜ Below m d ⌝ }
+    requires { ⌜ CanGoBelow m d ⌝ }
     ensures { λ r. ⌜ ((t : Triangle) (y : ℕ) → SidesOf t d → MarksOf t y d m → MarksOf t (y + 1) d r) ⌝ }
 {
     Marks {

@@ -18,14 +18,14 @@ pub fn parted(z: i64, a: u64) -> Part
         let back = n / a + 1;
         let over = n % a + 1;
         return Part {
-            count: RAISE - back,
+            quotient: RAISE - back,
             rest: a - over,
         };
     }
     let n = z as u64;
     let on = n / a;
     Part {
-        count: RAISE + on,
+        quotient: RAISE + on,
         rest: n % a,
     }
 }
@@ -35,13 +35,13 @@ pub fn part_sum(p: Part, q: Part, a: u64) -> Part
     requires { ⌜ Addable a p q ⌝ }
     ensures { λ r. ⌜ r ≡ partSum a p q ⌝ }
 {
-    let count = p.count + q.count - RAISE;
+    let quotient = p.quotient + q.quotient - RAISE;
     let rest = p.rest + q.rest;
     if rest < a {
-        return Part { count, rest };
+        return Part { quotient, rest };
     }
     Part {
-        count: count + 1,
+        quotient: quotient + 1,
         rest: rest - a,
     }
 }

@@ -10,7 +10,7 @@ ghost use Rattle.cover.specs.Side.{SidesOf, MarksOf};
 ghost use Rattle.cover.specs.Mask.{maskOf};
 ghost use Rattle.cover.specs.Runs.{begun, ended, inRun, RunOf, LeavesBefore};
 
-// The lesser of two marks, of those where the inside begins.
+// A mark stands for column RAISE - mark: of two where the inside begins, the one further right.
 fn begin(mark: u64, ends: bool, least: u64) -> u64
     ensures { λ r. ⌜ r ≡ begun mark ends least ⌝ }
 {
@@ -23,7 +23,7 @@ fn begin(mark: u64, ends: bool, least: u64) -> u64
     least
 }
 
-// The greater of two marks, of those where it ends.
+// Of two where it ends, the one further left.
 fn end(mark: u64, ends: bool, most: u64) -> u64
     ensures { λ r. ⌜ r ≡ ended mark ends most ⌝ }
 {
@@ -42,17 +42,17 @@ pub fn run_of(m: Marks, d: Sides, w: u32) -> Span
     ensures { λ r. ⌜ ((t : Triangle) (y : ℕ) → SidesOf t d → MarksOf t y d m → RunOf t y w r) ⌝ }
 {
     let least = begin(
-        m.p.count,
+        m.p.quotient,
         d.p.ends,
-        begin(m.q.count, d.q.ends, begin(m.r.count, d.r.ends, RAISE)),
+        begin(m.q.quotient, d.q.ends, begin(m.r.quotient, d.r.ends, RAISE)),
     );
     let most = end(
-        m.p.count,
+        m.p.quotient,
         d.p.ends,
         end(
-            m.q.count,
+            m.q.quotient,
             d.q.ends,
-            end(m.r.count, d.r.ends, RAISE - w as u64),
+            end(m.r.quotient, d.r.ends, RAISE - w as u64),
         ),
     );
     if least <= most {
@@ -82,11 +82,11 @@ fn leaves_before(x: u32, n: u32) -> u32
 pub fn run_mask(x: u32, from: u32, to: u32) -> u16
     ensures { λ r. ⌜ r ≡ maskOf (λ k. inRun from to (x + k)) 16 ⌝ }
 {
-    let all: u32 = 65536;
+    let past_all: u32 = 65536;
     let first = leaves_before(x, from);
     let past = leaves_before(x, to);
     if past <= first {
         return 0;
     }
-    ((all >> first) - (all >> past)) as u16
+    ((past_all >> first) - (past_all >> past)) as u16
 }

@@ -57,7 +57,7 @@ pub fn rising_value(x1: i32, y1: i32, x2: i32, y2: i32, y: u32) -> i64
     v
 }
 
-// What a column adds to 1,024 times that, and the column.
+// What one column adds to 1,024 times the rising value with the column added.
 fn across(dy: i64) -> u64
     requires { ⌜ natAbs dy ≤ 16384 ⌝ }
     ensures { λ r. ⌜ pos r ≡ acrossOf dy ⌝ }
@@ -68,7 +68,7 @@ fn across(dy: i64) -> u64
     (1 - 8192 * dy) as u64
 }
 
-// What a row adds to it.
+// What one row adds to it.
 fn down(dx: i64, dy: i64) -> i64
     requires { ⌜ natAbs dx ≤ 16384 ⌝ }
     ensures { λ r. ⌜ r ≡ downOf dx dy ⌝ }
@@ -80,17 +80,16 @@ fn down(dx: i64, dy: i64) -> i64
 }
 
 // The side of the edge from (x1, y1) to (x2, y2).
-pub fn side(x1: i32, y1: i32, x2: i32, y2: i32) -> Side
+fn side(x1: i32, y1: i32, x2: i32, y2: i32) -> Side
     requires { ⌜ edgeInRange (edgeFrom x1 y1 x2 y2) ≡ true ⌝ }
     ensures { λ r. ⌜ SideOf (edgeFrom x1 y1 x2 y2) r ⌝ }
 {
     let dx = x2 as i64 - x1 as i64;
     let dy = y2 as i64 - y1 as i64;
-    let across = across(dy);
-    let down = parted(down(dx, dy), across);
+    let step = across(dy);
     Side {
-        across,
-        down,
+        across: step,
+        down: parted(down(dx, dy), step),
         ends: 0 < dy,
     }
 }

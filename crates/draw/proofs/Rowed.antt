@@ -77,7 +77,7 @@ module _ (m₀ : List ℕ) (s : Screen) (t : Triangle) (y a b : ℕ) (q : RowAsk
     length-across = ap length (u .is-memory) ∙ length-pixels t s y x m₀
 
     -- the width is whole groups
-    pub group-fits : x < b → x + 16 ≤ width (s .size)
+    group-fits : x < b → x + 16 ≤ width (s .size)
     group-fits h = omega (arith, u .whole, q .limited)
 
     pub visit-asked : x < b → VisitAsked (length m) s t x y a b

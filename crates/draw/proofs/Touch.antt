@@ -33,15 +33,14 @@ module _ (t : Triangle) (x y : ℕ) where
   unfolding sample
   row-beyond b = below t (sample x y) (after-start y (b .first)) (after-start y (b .second)) (after-start y (b .third))
 
--- ---- the six numbers, read back from the machine's words
+-- three numbers, read back from the machine's words
 
-pub read-vertex : (v : ℤ) → vertexInRange v ≡ true → toZ w32 (ofZ w32 v) ≡ v
+read-vertex : (v : ℤ) → vertexInRange v ≡ true → toZ w32 (ofZ w32 v) ≡ v
 read-vertex v h = toZ-ofZ w32 v (fits-32 (vertex-within v h) (omega arith))
 
 pub still-in : (v : ℤ) → vertexInRange v ≡ true → vertexInRange (toZ w32 (ofZ w32 v)) ≡ true
 still-in v h = ap vertexInRange (read-vertex v h) ∙ h
 
--- three numbers read back
 module _ (a b c : ℤ) (ha : vertexInRange a ≡ true) (hb : vertexInRange b ≡ true) (hc : vertexInRange c ≡ true) (k : ℕ) where
   pub read-before : Before (toZ w32 (ofZ w32 a)) (toZ w32 (ofZ w32 b)) (toZ w32 (ofZ w32 c)) k → Before a b c k
   read-before h =

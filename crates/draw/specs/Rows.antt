@@ -19,12 +19,12 @@ pub record VisitDone (m : List ℕ) (s : Screen) (t : Triangle) (x y : ℕ) (ans
   pub covers : answer .covered ≡ howMany (λ k. covered t s (x + k) y) 16
   pub draws : GroupDone m s t x y (answer .written) after
 
--- the covered pixels of the group that starts at pixel (x, y) are those of the columns a to b
+-- the covered pixels of the group that starts at pixel (x, y) are those from column a up to but not including b
 pub record VisitAsked (n : ℕ) (s : Screen) (t : Triangle) (x y a b : ℕ) : Type 0 where
   pub on : GroupOn n s x y
   pub run : (k : ℕ) → k < 16 → covered t s (x + k) y ≡ inRun a b (x + k)
 
--- the covered pixels of row y are those of the columns a to b
+-- the covered pixels of row y are those from column a up to but not including b
 pub record RowAsked (n : ℕ) (s : Screen) (t : Triangle) (y a b : ℕ) : Type 0 where
   pub is-sound : sound n s ≡ true
   pub row : y < height (s .size)

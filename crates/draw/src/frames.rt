@@ -20,15 +20,16 @@ pub fn frame(ram: &mut [u8], s: Screen, t: Triangle) -> Counts
 {
     let d = sides(t);
     let w = width(s.size);
-    let down = touched_rows(t, height(s.size));
-    let end = down.to;
-    let mut y = down.from;
+    let rows = touched_rows(t, height(s.size));
+    let end = rows.to;
+    let mut y = rows.from;
     let mut m = marks_at(t, d, y);
     let mut covered: u32 = 0;
     let mut written: u32 = 0;
     while y < end {
         let run = run_of(m, d, w);
         let c = row(ram, s, t, y, run.from, run.to);
+        // before the counts: after them it costs registers
         m = marks_below(m, d);
         covered += c.covered;
         written += c.written;

@@ -22,13 +22,13 @@ pub fn leaf(ram: &mut [u8], colour: usize, depth: usize, v: Tints, written: u32)
     if load_half(ram, depth) < z {
         return written;
     }
+    // before the colour: after it, it costs registers
     store_half(ram, depth, z);
     store_half(ram, colour, colour_of(v));
     written + 1
 }
 
-// The leaves that the mask names: from the first one on there are as many as it has ones, without a gap, and their half-words stand side by
-// side. It answers how many were written.
+// The leaves that the mask names: from the first one on as many as it has ones, without a gap. It answers how many were written.
 pub fn group(ram: &mut [u8], s: Screen, t: Triangle, x: u32, y: u32, mask: u16) -> u32
     requires { ⌜ GroupAsked (length (now ram)) s t x y mask ⌝ }
     ensures { λ r. ⌜ GroupDone (now (ram .entry)) s t x y r (now (ram .exit)) ⌝ }

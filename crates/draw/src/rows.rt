@@ -7,7 +7,7 @@ use rules::Triangle;
 ghost use lib.ListN.{length};
 ghost use Rattle.draw.specs.Rows.{VisitAsked, VisitDone, RowAsked, RowDone};
 
-// One group: nothing where its mask is empty.
+// One group: nothing where the run has no column in it.
 fn visit(ram: &mut [u8], s: Screen, t: Triangle, x: u32, y: u32, from: u32, to: u32) -> Counts
     requires { ⌜ VisitAsked (length (now ram)) s t x y from to ⌝ }
     ensures { λ r. ⌜ VisitDone (now (ram .entry)) s t x y r (now (ram .exit)) ⌝ }
@@ -24,7 +24,7 @@ fn visit(ram: &mut [u8], s: Screen, t: Triangle, x: u32, y: u32, from: u32, to: 
     Counts { covered, written }
 }
 
-// Row y, whose covered pixels are those of the columns from `from` to `to`, group by group.
+// Row y, whose covered pixels are those from column `from` up to but not including `to`, group by group.
 pub fn row(ram: &mut [u8], s: Screen, t: Triangle, y: u32, from: u32, to: u32) -> Counts
     requires { ⌜ RowAsked (length (now ram)) s t y from to ⌝ }
     ensures { λ r. ⌜ RowDone (now (ram .entry)) s t y r (now (ram .exit)) ⌝ }

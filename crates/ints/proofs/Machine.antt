@@ -17,7 +17,7 @@ use borrow.Author.Needs.{sfits-of}
 use Rattle.ints.specs.Modulo.{mod32}
 use Rattle.ints.proofs.Poly.{both}
 use Rattle.ints.proofs.Modulo.{mod32-low, low-mask}
-use Rattle.ints.proofs.Order.{pos-le}
+use Rattle.ints.proofs.Order.{pos-le, natural}
 use Rattle.ints.proofs.Bounds.{Within, within-self, within-pos, within-le, within-add, within-sub, within-mul, within-quot, within-shr, within-mag, within-fits}
 
 pub record Got (w : Width) (n : ℕ) (z : ℤ) (b : ℕ) : Type 0 where
@@ -193,6 +193,13 @@ module _ {w : Width} (e : Code w) (t : T (fine e)) where
 
   pub reads-as : toZ w (word-of e) ≡ meant e
   reads-as = got-of .reads
+
+  -- cast to unsigned
+  pub natural-as : pos 0 ≤ℤ meant e → pos (natAbs (toZ w (word-of e))) ≡ meant e
+  natural-as h = ap (λ (z : ℤ). pos (natAbs z)) reads-as ∙ sym (natural h)
+
+  pub size-of : natAbs (toZ w (word-of e)) ≤ most e
+  size-of = subst (λ (z : ℤ). natAbs z ≤ most e) (sym reads-as) (got-of .bound .within)
 
 -- to unsigned
 pub need-unsigned : {w : Width} (v : Width) {n : ℕ} {z : ℤ} {b : ℕ} → Got w n z b → pos 0 ≤ℤ z → T (ltb b (2 ^ bits v))

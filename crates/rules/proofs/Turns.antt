@@ -49,10 +49,6 @@ module _ (t : ℕ → Bool) where
   unfolding howMany
   howMany-more n = rw add-one
 
-  pub howMany-nothing : howMany t 0 ≡ 0
-  unfolding howMany
-  howMany-nothing = refl
-
   pub howMany-add : (n k : ℕ) → howMany t (n + k) ≡ howMany t n + howMany (λ i. t (n + i)) k
   unfolding howMany
   howMany-add n zero = rw (add-zero, add-zero)

@@ -23,7 +23,7 @@ ghost use Prim.Native.Nat.{_<_};
 ghost use mathlib.Core.Path.{_≡_};
 ghost use mathlib.Core.Bool.{true};
 ghost use lib.ListN.{length, set};
-ghost use Rattle.instructions.specs.Words.{address, inR1, opcode, register, withRegister};
+ghost use Rattle.instructions.specs.Words.{address, inR1, opcode};
 ghost use Rattle.instructions.specs.Arithmetic.{operand, result, setsFlags};
 ghost use Rattle.steps.specs.Steps.{Going, InData, PutsResult};
 

@@ -27,9 +27,9 @@ returns-2 c k h =
     let l = c .before .least in
     let n : 8200 + 8 * k ≤ l .result = omega (arith, h, c .if1 .left) in
     record {
-      first = before-raised (s .fits .a) (c .before .before .before .before .raised .ensures .0) k (l .ensures .0) n;
-      second = before-raised (s .fits .b) (c .before .before .before .raised2 .ensures .0) k (l .ensures .1) n;
-      third = before-raised (s .fits .c) (c .before .before .raised3 .ensures .0) k (l .ensures .2) n;
+      first = before-raised (s .fits .a) (c .before .before .before .before .raised .ensures) k (l .ensures .0) n;
+      second = before-raised (s .fits .b) (c .before .before .before .raised2 .ensures) k (l .ensures .1) n;
+      third = before-raised (s .fits .c) (c .before .before .raised3 .ensures) k (l .ensures .2) n;
     }
 
 pub first-touched-spec : {M : Type 1} → statement M

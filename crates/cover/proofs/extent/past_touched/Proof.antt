@@ -27,19 +27,19 @@ beyond c k h =
     let s = start c in
     let g = c .greatest in
     record {
-      first = beyond-raised (s .fits .a) (c .before .before .before .raised .ensures .0) k (g .ensures .0) h;
-      second = beyond-raised (s .fits .b) (c .before .before .raised2 .ensures .0) k (g .ensures .1) h;
-      third = beyond-raised (s .fits .c) (c .before .raised3 .ensures .0) k (g .ensures .2) h;
+      first = beyond-raised (s .fits .a) (c .before .before .before .raised .ensures) k (g .ensures .0) h;
+      second = beyond-raised (s .fits .b) (c .before .before .raised2 .ensures) k (g .ensures .1) h;
+      third = beyond-raised (s .fits .c) (c .before .raised3 .ensures) k (g .ensures .2) h;
     }
 
 returns : tie.Need-returns
-returns c = ((λ k h. beyond (c .before) k (omega (arith, c .if1 .taken))), omega arith)
+returns c k h = beyond (c .before) k (omega (arith, c .if1 .taken))
 
 add-result : tie.Need-add-result
 add-result c = search needs
 
 returns-2 : tie.Need-returns-2
-returns-2 c = ((λ k h. beyond (c .before) k (omega (arith, c .if1 .left))), omega (arith, c .before .greatest .ensures .3))
+returns-2 c k h = beyond (c .before) k (omega (arith, c .if1 .left))
 
 pub past-touched-spec : {M : Type 1} → statement M
 past-touched-spec =

@@ -1,15 +1,14 @@
--- The number is within 8,192 either way, so the sum is a natural number up to 16,384.
+-- The number is within 8,192 either way, so the sum is a natural number.
 use Prim.Native.Nat.{_+_, _≤_}
-use mathlib.Core.Path.{sym, _∙_, ap, subst}
 use mathlib.Core.List.{List, [], _∷_}
 use native.Mathlib.Omega.{arith}
-use lib.IntN.{ℤ, pos, natAbs, negℤ, _+ℤ_}
+use lib.IntN.{ℤ, pos, negℤ, _+ℤ_}
 use lib.Signed.{_≤ℤ_}
 use mir.Syntax.{w32, w64}
 use Rattle.ints.proofs.Poly.{var, con, _⊕_}
-use Rattle.ints.proofs.Order.{le-of, le-to, natural}
+use Rattle.ints.proofs.Order.{le-of, le-to}
 use Rattle.ints.proofs.Bounds.{Within, within-lo}
-use Rattle.ints.proofs.Machine.{got-arg, got-lit, Code, known, cast, _⊞_, need, got-of, reads-as, need-unsigned}
+use Rattle.ints.proofs.Machine.{got-arg, got-lit, Code, known, cast, _⊞_, need, got-of, natural-as, need-unsigned}
 use Rattle.cover.proofs.Along.{vertex-within}
 use Rattle.cover.proofs.extent.raised.Statement.{statement}
 use Rattle.cover.proofs.extent.raised.Tie as tie
@@ -38,11 +37,7 @@ cast-result-2 : tie.Need-cast-result-2
 cast-result-2 c = need-unsigned w32 (got-of (sumC c) tt) (not-negative c) tt
 
 returns : tie.Need-returns
-returns c =
-    let e = reads-as (sumC c) tt in (
-      ap (λ (z : ℤ). pos (natAbs z)) e ∙ sym (natural (not-negative c)),
-      subst (λ (z : ℤ). natAbs z ≤ 16384) (sym e) (got-of (sumC c) tt .bound .within),
-    )
+returns c = natural-as (sumC c) tt (not-negative c)
 
 pub raised-spec : {M : Type 1} → statement M
 raised-spec = tie.close (tie.spec cast-result add-result cast-result-2 returns)

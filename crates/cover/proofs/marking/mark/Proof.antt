@@ -1,11 +1,10 @@
 -- 1,024 times the rising value is within what can be parted.
-use Prim.Native.Nat.{_≤_}
 use mathlib.Core.Path.{_≡_, sym, _∙_, ap, subst}
 use native.Mathlib.Omega.{arith}
-use lib.IntN.{ℤ, pos, natAbs, _*ℤ_}
+use lib.IntN.{ℤ, pos, _*ℤ_}
 use mir.Syntax.{w64}
-use Rattle.ints.proofs.Bounds.{Within, within-le}
-use Rattle.ints.proofs.Machine.{got-in, got-lit, Code, known, _⊠_, need, got-of, reads-as}
+use Rattle.ints.proofs.Bounds.{Within}
+use Rattle.ints.proofs.Machine.{got-in, got-lit, Code, known, _⊠_, need, reads-as, size-of}
 use Rattle.rules.specs.Triangles.{Edge, dy}
 use Rattle.cover.specs.Side.{edgeFrom, rising}
 use Rattle.cover.specs.Parts.{Parted}
@@ -30,16 +29,15 @@ times c =
     let s = c .before in
     known (got-lit w64 1024 tt)
     ⊠ known
-    (got-in {b = 421756930}
-    (subst (Within 421756930) (sym (is-rising c)) (rising-within (edge s) (edge-within (edge s) (s .pre .0)) (s .args .y) (s .pre .1))) tt)
+    (got-in {b = 419659778}
+    (subst (Within 419659778) (sym (is-rising c)) (rising-within (edge s) (edge-within (edge s) (s .pre .0)) (s .args .y) (s .pre .1))) tt)
 
 mul-parted : tie.Need-mul-parted
 mul-parted c = need (times c) tt
 
 parted-requires : tie.Need-parted-requires
 parted-requires c κs = (
-  subst (λ (z : ℤ). natAbs z ≤ 549755813888) (sym (reads-as (times c) tt))
-      (within-le {m = 549755813888} (omega arith) (got-of (times c) tt .bound) .within),
+  omega (arith, size-of (times c) tt),
   across-least (dy (edge (c .before))) (c .before .pre .2),
 )
 

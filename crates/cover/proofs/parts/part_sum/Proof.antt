@@ -4,11 +4,11 @@ use borrow.Author.Tests.{lt-ltb, le-ltb}
 use Rattle.cover.proofs.parts.part_sum.Statement.{statement}
 use Rattle.cover.proofs.parts.part_sum.Tie as tie
 
-add-count : tie.Need-add-count
-add-count c = search needs
+add-quotient : tie.Need-add-quotient
+add-quotient c = search needs
 
-sub-count : tie.Need-sub-count
-sub-count c = search needs
+sub-quotient : tie.Need-sub-quotient
+sub-quotient c = search needs
 
 add-rest : tie.Need-add-rest
 add-rest c = search needs
@@ -23,4 +23,4 @@ returns-2 : tie.Need-returns-2
 returns-2 c = rw (le-ltb _ _ (c .if1 .left))
 
 pub part-sum-spec : {M : Type 1} → statement M
-part-sum-spec = tie.close (tie.spec add-count sub-count add-rest returns add-t6 returns-2)
+part-sum-spec = tie.close (tie.spec add-quotient sub-quotient add-rest returns add-t6 returns-2)

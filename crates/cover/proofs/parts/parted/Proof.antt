@@ -1,6 +1,6 @@
 -- Each branch divides a natural number: z itself, or -1 - z.
 use Prim.Native.Nat.{ℕ, _+_, _/_, _%_, _≤_, _<_}
-use mathlib.Core.Path.{_≡_, sym, _∙_, ap, subst}
+use mathlib.Core.Path.{sym, _∙_, subst}
 use mathlib.Core.List.{List, [], _∷_}
 use native.Mathlib.Nat.{mod-lt, div-le-self}
 use native.Mathlib.Omega.{arith}
@@ -9,9 +9,10 @@ use lib.Signed.{_≤ℤ_}
 use mir.Syntax.{w64}
 use mir.Val.{toZ}
 use Rattle.ints.proofs.Poly.{var, con, _⊖_}
-use Rattle.ints.proofs.Order.{le-of, lt-to, natural, ltZ-true, ltZ-false}
-use Rattle.ints.proofs.Machine.{got-arg, got-lit, Code, known, _⊟_, word-of, test-lt, need, got-of, reads-as, need-unsigned}
+use Rattle.ints.proofs.Order.{le-of, lt-to, ltZ-true, ltZ-false}
+use Rattle.ints.proofs.Machine.{got-arg, Code, known, word-of, test-lt, need, got-of, natural-as, size-of, need-unsigned}
 use Rattle.cover.specs.Parts.{raise, Parted}
+use Rattle.cover.proofs.Codes.{zeroC, turnedC}
 use Rattle.cover.proofs.Quotients.{parted-on, parted-back}
 use borrow.Author.Needs.{needs}
 use Rattle.cover.proofs.parts.parted.Statement.{statement}
@@ -20,11 +21,8 @@ use Rattle.cover.proofs.parts.parted.Tie as tie
 abbrev given : tie.Start → Code w64
 given c = known (got-arg (c .fits .z) (record { within = c .pre .0 }))
 
-abbrev zeroC : Code w64
-zeroC = known (got-lit w64 0 tt)
-
 abbrev turned : tie.Start → Code w64
-turned c = known (got-lit w64 18446744073709551615 tt) ⊟ given c
+turned c = turnedC (given c)
 
 -- -1 - z, where z is negative
 positive : (c : tie.Then1) → pos 0 ≤ℤ (negsuc 0 -ℤ c .before .args .z)
@@ -37,11 +35,8 @@ positive c =
 abbrev natural-of : tie.Then1 → ℕ
 natural-of c = natAbs (toZ w64 (word-of (turned (c .before))))
 
-is-turned : (c : tie.Then1) → pos (natural-of c) ≡ negsuc 0 -ℤ c .before .args .z
-is-turned c = ap (λ (z : ℤ). pos (natAbs z)) (reads-as (turned (c .before)) tt) ∙ sym (natural (positive c))
-
 small : (c : tie.Then1) → natural-of c ≤ 549755813889
-small c = subst (λ (z : ℤ). natAbs z ≤ 549755813889) (sym (reads-as (turned (c .before)) tt)) (got-of (turned (c .before)) tt .bound .within)
+small c = size-of (turned (c .before)) tt
 
 sub-n : tie.Need-sub-n
 sub-n c = need (turned (c .before)) tt
@@ -71,7 +66,7 @@ sub-t11 : tie.Need-sub-t11
 sub-t11 c = omega (arith, less c)
 
 returns : tie.Need-returns
-returns c = parted-back (natural-of c) (c .before .args .a) (is-turned c) (omega (arith, small c)) (c .before .pre .1)
+returns c = parted-back (natural-of c) (c .before .args .a) (natural-as (turned (c .before)) tt (positive c)) (omega (arith, small c)) (c .before .pre .1)
 
 -- z, where it is not
 not-negative : (c : tie.Else1) → pos 0 ≤ℤ c .before .args .z
@@ -81,9 +76,6 @@ not-negative c =
 abbrev own : tie.Else1 → ℕ
 own c = natAbs (toZ w64 (word-of (given (c .before))))
 
-is-own : (c : tie.Else1) → pos (own c) ≡ c .before .args .z
-is-own c = ap (λ (z : ℤ). pos (natAbs z)) (reads-as (given (c .before)) tt) ∙ sym (natural (not-negative c))
-
 cast-n-2 : tie.Need-cast-n-2
 cast-n-2 c = need-unsigned w64 (got-of (given (c .before)) tt) (not-negative c) tt
 
@@ -92,8 +84,7 @@ div-on c = search needs
 
 add-t12 : tie.Need-add-t12
 add-t12 c =
-    let l : own c ≤ 549755813888 =
-    subst (λ (z : ℤ). natAbs z ≤ 549755813888) (sym (reads-as (given (c .before)) tt)) (c .before .pre .0) in
+    let l : own c ≤ 549755813888 = size-of (given (c .before)) tt in
     omega (arith, div-le-self (own c) (c .before .args .a))
 
 rem-t13 : tie.Need-rem-t13
@@ -102,7 +93,7 @@ rem-t13 c = search needs
 returns-2 : tie.Need-returns-2
 returns-2 c =
     let a = c .before .args .a in
-    subst (λ (z : ℤ). Parted z a (record { count = raise + own c / a; rest = own c % a })) (is-own c) (parted-on (own c) a (c .before .pre .1))
+    subst (λ (z : ℤ). Parted z a (record { quotient = raise + own c / a; rest = own c % a })) (natural-as (given (c .before)) tt (not-negative c)) (parted-on (own c) a (c .before .pre .1))
 
 pub parted-spec : {M : Type 1} → statement M
 parted-spec =

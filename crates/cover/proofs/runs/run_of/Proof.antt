@@ -36,9 +36,9 @@ least : (c : tie.After-end3) →
 least c =
     let a = c .before .before .before .before .before .before .args in
     c .before .before .before .begin3 .ensures
-    ∙ ap (begun (a .m .p .count) (a .d .p .ends))
+    ∙ ap (begun (a .m .p .quotient) (a .d .p .ends))
     (c .before .before .before .before .begin2 .ensures
-    ∙ ap (begun (a .m .q .count) (a .d .q .ends)) (c .before .before .before .before .before .begin .ensures))
+    ∙ ap (begun (a .m .q .quotient) (a .d .q .ends)) (c .before .before .before .before .before .begin .ensures))
 
 most : (c : tie.After-end3) →
     let a = c .before .before .before .before .before .before .args in
@@ -46,8 +46,8 @@ most : (c : tie.After-end3) →
 most c =
     let a = c .before .before .before .before .before .before .args in
     c .end3 .ensures
-    ∙ ap (ended (a .m .p .count) (a .d .p .ends))
-    (c .before .end2 .ensures ∙ ap (ended (a .m .q .count) (a .d .q .ends)) (c .before .before .end .ensures))
+    ∙ ap (ended (a .m .p .quotient) (a .d .p .ends))
+    (c .before .end2 .ensures ∙ ap (ended (a .m .q .quotient) (a .d .q .ends)) (c .before .before .end .ensures))
 
 returns : tie.Need-returns
 returns c t y o h =

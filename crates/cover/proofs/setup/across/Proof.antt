@@ -1,13 +1,12 @@
--- The sign is that of the difference's test, and with it the number is 1 at least.
-use mathlib.Core.Path.{sym, _∙_, ap}
+-- The test of dy says which sign its product takes, and with it the number is 1 at least.
 use mathlib.Core.List.{List, [], _∷_}
 use native.Mathlib.Omega.{arith}
-use lib.IntN.{ℤ, pos, natAbs, _+ℤ_, _-ℤ_, _*ℤ_}
+use lib.IntN.{ℤ, pos, _+ℤ_, _-ℤ_, _*ℤ_}
 use lib.Signed.{_≤ℤ_}
 use mir.Syntax.{w64}
 use Rattle.ints.proofs.Poly.{var, con, _⊕_, _⊖_, _⊗_}
-use Rattle.ints.proofs.Order.{le-of, le-to, lt-to, natural}
-use Rattle.ints.proofs.Machine.{got-arg, got-lit, Code, known, _⊞_, _⊟_, _⊠_, need, got-of, reads-as, need-unsigned}
+use Rattle.ints.proofs.Order.{le-of, le-to, lt-to}
+use Rattle.ints.proofs.Machine.{got-arg, got-lit, Code, known, _⊞_, _⊟_, _⊠_, need, got-of, natural-as, need-unsigned}
 use Rattle.cover.proofs.Along.{positive-true, positive-false}
 use Rattle.cover.proofs.Codes.{read-above}
 use Rattle.cover.proofs.setup.across.Statement.{statement}
@@ -48,7 +47,7 @@ cast-result c = need-unsigned w64 (got-of (up (c .before)) tt) (up-natural c) tt
 returns : tie.Need-returns
 returns c =
     rw (read-above (c .before .args .dy) (c .before .fits .dy) (c .if1 .taken))
-    (ap (λ (z : ℤ). pos (natAbs z)) (reads-as (up (c .before)) tt) ∙ sym (natural (up-natural c)))
+    (natural-as (up (c .before)) tt (up-natural c))
 
 mul-result-2 : tie.Need-mul-result-2
 mul-result-2 c = need (times (c .before)) tt
@@ -62,7 +61,7 @@ cast-result-2 c = need-unsigned w64 (got-of (down (c .before)) tt) (down-natural
 returns-2 : tie.Need-returns-2
 returns-2 c =
     rw (read-above (c .before .args .dy) (c .before .fits .dy) (c .if1 .left))
-    (ap (λ (z : ℤ). pos (natAbs z)) (reads-as (down (c .before)) tt) ∙ sym (natural (down-natural c)))
+    (natural-as (down (c .before)) tt (down-natural c))
 
 pub across-spec : {M : Type 1} → statement M
 across-spec =

@@ -1,4 +1,4 @@
--- The sign is that of the other difference's test.
+-- The test of dy says which sign dx's product takes.
 use mir.Syntax.{w64}
 use Rattle.ints.proofs.Machine.{got-arg, got-lit, Code, known, _⊟_, _⊠_, need, reads-as}
 use Rattle.cover.proofs.Codes.{zeroC, read-above}

@@ -1,19 +1,17 @@
 -- The signed sums are within 64 bits by the vertices' range, and the test of dy is that of the definition.
 use mathlib.Core.Path.{_≡_, sym, _∙_, ap, ap₂, subst}
-use mathlib.Core.Bool.{Bool, _&&_, _||_}
+use mathlib.Core.Bool.{_&&_, _||_}
 use native.Mathlib.Omega.{arith}
 use lib.IntN.{ℤ, pos, negsuc, _-ℤ_}
-use lib.Signed.{ltZ}
 use mir.Syntax.{w64}
-use mir.Val.{toZ}
 use Rattle.ints.proofs.Bounds.{Within}
-use Rattle.ints.proofs.Machine.{got-in, got-lit, Code, known, _⊟_, word-of, need, reads-as}
+use Rattle.ints.proofs.Machine.{got-in, Code, known, _⊟_, need, reads-as}
 use Rattle.rules.specs.Turns.{choose}
 use Rattle.rules.specs.Triangles.{Edge, sample, edgeValue, keepsZero, negative, isZero, positive}
 use Rattle.cover.specs.Side.{edgeFrom, sided}
-use Rattle.cover.proofs.Along.{EdgeWithin, edge-within, loss-within, read-in-range, above}
+use Rattle.cover.proofs.Along.{EdgeWithin, edge-within, loss-within, read-in-range}
 use Rattle.cover.proofs.Codes as code
-use Rattle.cover.proofs.Codes.{answeredC, answered}
+use Rattle.cover.proofs.Codes.{turnedC, answeredC, answered, code-above}
 use Rattle.cover.proofs.setup.rising_value.Statement.{statement}
 use Rattle.cover.proofs.setup.rising_value.Tie as tie
 
@@ -49,7 +47,7 @@ lowered c =
     ⊟ known (got-in {b = 1} (subst (Within 1) (sym (lost c)) (loss-within (keepsZero (edge (c .before .before))))) tt)
 
 abbrev turned : tie.After-loss → Code w64
-turned c = known (got-lit w64 18446744073709551615 tt) ⊟ lowered c
+turned c = turnedC (lowered c)
 
 cast-dx : tie.Need-cast-dx
 cast-dx c = need (code.x2C (edge c) (in-range c)) tt
@@ -85,19 +83,15 @@ start : (c : tie.After-loss) → c .before .edge-value .result -ℤ c .loss .res
 unfolding sided
 start c = ap₂ _-ℤ_ (valued (c .before)) (lost c)
 
--- the test of dy, read off the machine's word
-signed : (c : tie.Start) {b : Bool} → ltZ (pos 0) (toZ w64 (word-of (dy c))) ≡ b → positive (c .args .y2 -ℤ c .args .y1) ≡ b
-signed c h = sym (above (c .args .y2 -ℤ c .args .y1)) ∙ ap (ltZ (pos 0)) (sym (reads-as (dy c) tt)) ∙ h
-
 returns : tie.Need-returns
 returns c =
     let l = c .before in
-    rw (signed (l .before .before) (c .if1 .taken)) (reads-as (turned l) tt ∙ ap (λ (z : ℤ). negsuc 0 -ℤ z) (start l))
+    rw (code-above (dy (l .before .before)) tt (c .if1 .taken)) (reads-as (turned l) tt ∙ ap (λ (z : ℤ). negsuc 0 -ℤ z) (start l))
 
 returns-2 : tie.Need-returns-2
 returns-2 c =
     let l = c .before in
-    rw (signed (l .before .before) (c .if1 .left)) (reads-as (lowered l) tt ∙ start l)
+    rw (code-above (dy (l .before .before)) tt (c .if1 .left)) (reads-as (lowered l) tt ∙ start l)
 
 pub rising-value-spec : {M : Type 1} → statement M
 rising-value-spec =

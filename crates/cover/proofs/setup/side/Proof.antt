@@ -1,17 +1,16 @@
 -- The differences are within their range, so both steps are, and each part is what its function promises.
-use Prim.Native.Nat.{_≤_}
-use mathlib.Core.Path.{_≡_, sym, _∙_, ap, ap₂, subst}
+use mathlib.Core.Path.{_≡_, refl, sym, _∙_, ap, ap₂, subst}
 use native.Mathlib.Omega.{arith}
-use lib.IntN.{ℤ, pos, natAbs}
-use lib.Signed.{ltZ}
+use lib.IntN.{ℤ, pos}
 use mir.Syntax.{w64}
-use Rattle.ints.proofs.Bounds.{Within, within-le}
-use Rattle.ints.proofs.Machine.{got-in, Code, known, need, got-of, reads-as}
+use Rattle.ints.proofs.Bounds.{Within}
+use Rattle.ints.proofs.Machine.{got-in, Code, known, need, got-of, reads-as, size-of}
 use Rattle.rules.specs.Triangles.{Edge, dx, dy}
 use Rattle.cover.specs.Side.{edgeFrom, acrossOf, downOf}
 use Rattle.cover.specs.Parts.{Parted}
-use Rattle.cover.proofs.Along.{EdgeWithin, edge-within, above}
+use Rattle.cover.proofs.Along.{EdgeWithin, edge-within}
 use Rattle.cover.proofs.Codes as code
+use Rattle.cover.proofs.Codes.{code-above}
 use Rattle.cover.proofs.Turning.{down-within, across-least}
 use Rattle.cover.proofs.setup.side.Statement.{statement}
 use Rattle.cover.proofs.setup.side.Tie as tie
@@ -47,12 +46,10 @@ sub-dy : tie.Need-sub-dy
 sub-dy c = need (dyC c) tt
 
 across-requires : tie.Need-across-requires
-across-requires c κs = subst (λ (z : ℤ). natAbs z ≤ 16384) (sym (reads-as (dyC c) tt)) (got-of (dyC c) tt .bound .within)
+across-requires c κs = size-of (dyC c) tt
 
 down-requires : tie.Need-down-requires
-down-requires c κs =
-    let s = c .before in
-    subst (λ (z : ℤ). natAbs z ≤ 16384) (sym (reads-as (dxC s) tt)) (got-of (dxC s) tt .bound .within)
+down-requires c κs = size-of (dxC (c .before)) tt
 
 is-across : (c : tie.After-across) → pos (c .across .result) ≡ acrossOf (dy (edge (c .before)))
 is-across c = c .across .ensures ∙ ap acrossOf (reads-as (dyC (c .before)) tt)
@@ -69,8 +66,7 @@ downC c =
 
 parted-requires : tie.Need-parted-requires
 parted-requires c κs = (
-  subst (λ (z : ℤ). natAbs z ≤ 549755813888) (sym (reads-as (downC c) tt))
-      (within-le {m = 549755813888} (omega arith) (got-of (downC c) tt .bound) .within),
+  omega (arith, size-of (downC c) tt),
   across-least (dy (edge (c .before .before))) (is-across (c .before)),
 )
 
@@ -82,7 +78,7 @@ returns c =
       is-across = is-across (n .before);
       is-down =
           subst (λ (z : ℤ). Parted z (n .before .across .result) (c .parted .result)) (reads-as (downC n) tt ∙ is-down n) (c .parted .ensures);
-      is-ends = ap (ltZ (pos 0)) (reads-as (dyC s) tt) ∙ above (dy (edge s));
+      is-ends = sym (code-above (dyC s) tt refl);
     }
 
 pub side-spec : {M : Type 1} → statement M

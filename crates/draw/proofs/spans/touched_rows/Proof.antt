@@ -37,7 +37,7 @@ returns c =
     λ x y.
     ⊎-elim
     (λ (l : y < f .result). row-before t x y (read-before (t .y1) (t .y2) (t .y3) (h .in-y1) (h .in-y2) (h .in-y3) y (f .ensures y l)))
-    (λ (l : p .result ≤ y). row-beyond t x y (read-beyond (t .y1) (t .y2) (t .y3) (h .in-y1) (h .in-y2) (h .in-y3) y (p .ensures .0 y l))) in
+    (λ (l : p .result ≤ y). row-beyond t x y (read-beyond (t .y1) (t .y2) (t .y3) (h .in-y1) (h .in-y2) (h .in-y3) y (p .ensures y l))) in
     record {
       ordered = e .ordered;
       limited = e .limited;
