@@ -8,12 +8,11 @@ use native.Mathlib.Omega.{arith}
 use lib.Dec.{ltb, leb}
 use lib.Count.{ones, onesIn, ones-cat}
 use lib.Pow.{pow-mono, pow-add, shl-shr}
-use borrow.Author.Tests.{ltb-true, ltb-false, leb-true, leb-false}
+use borrow.Author.Tests.{lt-ltb, le-ltb, ltb-true, ltb-false, leb-true, leb-false}
 use Rattle.rules.specs.Turns.{bit, howMany}
 use Rattle.rules.proofs.Choices.{bit-le, leb-not}
 use Rattle.cover.specs.Mask.{maskOf}
 use Rattle.cover.specs.Runs.{inRun, LeavesBefore}
-use Rattle.cover.proofs.Columns.{run-empty}
 
 one : (b : Bool) → ones (bit b) ≡ bit b
 unfolding ones onesIn
@@ -47,11 +46,6 @@ module _ (f : ℕ → Bool) where
   unfolding maskOf
   mask-same g zero h = refl
   mask-same g (suc k) h = rw (mask-same g k (λ i l. h i (omega arith)), h k (omega arith))
-
-  mask-empty : (k : ℕ) → ((i : ℕ) → i < k → f i ≡ false) → maskOf f k ≡ 0
-  unfolding maskOf
-  mask-empty zero h = refl
-  mask-empty (suc k) h = rw (mask-empty k (λ i l. h i (omega arith)), h k (omega arith))
 
 -- 2 ^ (n - k) is one more than the mask of the leaves from k on: one leaf more doubles it once k is reached, and before that it is 1
 from-on : (n k : ℕ) → k ≤ n → 2 ^ (suc n - k) ≡ 2 ^ (n - k) * 2
@@ -99,8 +93,17 @@ module _ {x from to first past : ℕ} (f : LeavesBefore x from first) (p : Leave
       mask-same (λ k. inRun from to (x + k)) (inRun first past) 16
       (λ k h. ap₂ _&&_ (leb-not from (x + k) ∙ ap not (sym (f .these k h)) ∙ sym (leb-not first k)) (sym (p .these k h)))
 
-  pub part-empty : past ≤ first → maskOf (λ k. inRun from to (x + k)) 16 ≡ 0
-  part-empty o = mask-part ∙ mask-empty (inRun first past) 16 (λ k h. run-empty first past k o)
+  ordered : from ≤ to → first ≤ past
+  ordered o = go (leb first past) refl
+    where
+      go : (b : Bool) → leb first past ≡ b → first ≤ past
+      go true e = leb-true first past e
+      go false e =
+          let l : past < first = leb-false first past e in
+          let h : past < 16 = omega (arith, f .few) in
+          let before : x + past < from = ltb-true (x + past) from (sym (f .these past h) ∙ lt-ltb past first l) in
+          let beyond : to ≤ x + past = ltb-false (x + past) to (sym (p .these past h) ∙ le-ltb past past (omega arith)) in
+          absurd (omega arith)
 
-  pub part-some : first ≤ past → maskOf (λ k. inRun from to (x + k)) 16 + 65536 / 2 ^ past ≡ 65536 / 2 ^ first
-  part-some o = omega (arith, mask-part, mask-run first past 16 o, shifted first (f .few), shifted past (p .few))
+  pub part-mask : from ≤ to → maskOf (λ k. inRun from to (x + k)) 16 + 65536 / 2 ^ past ≡ 65536 / 2 ^ first
+  part-mask o = omega (arith, mask-part, mask-run first past 16 (ordered o), shifted first (f .few), shifted past (p .few))

@@ -80,13 +80,11 @@ fn leaves_before(x: u32, n: u32) -> u32
 
 // The mask of the group that starts at column x: 1 where a leaf lies in the run, leaf 0 in the top bit.
 pub fn run_mask(x: u32, from: u32, to: u32) -> u16
+    requires { ⌜ from ≤ to ⌝ }
     ensures { λ r. ⌜ r ≡ maskOf (λ k. inRun from to (x + k)) 16 ⌝ }
 {
     let past_all: u32 = 65536;
     let first = leaves_before(x, from);
     let past = leaves_before(x, to);
-    if past <= first {
-        return 0;
-    }
     ((past_all >> first) - (past_all >> past)) as u16
 }

@@ -90,6 +90,7 @@ module _ (m₀ : List ℕ) (s : Screen) (t : Triangle) (y a b : ℕ) (q : RowAsk
                 columns = group-fits h;
                 row = q .row;
               };
+          ordered = q .ordered;
           run = λ k l. q .run (x + k) (omega (arith, group-fits h));
         }
 

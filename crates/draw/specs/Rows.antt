@@ -22,6 +22,7 @@ pub record VisitDone (m : List ℕ) (s : Screen) (t : Triangle) (x y : ℕ) (ans
 -- the covered pixels of the group that starts at pixel (x, y) are those from column a up to but not including b
 pub record VisitAsked (n : ℕ) (s : Screen) (t : Triangle) (x y a b : ℕ) : Type 0 where
   pub on : GroupOn n s x y
+  pub ordered : a ≤ b
   pub run : (k : ℕ) → k < 16 → covered t s (x + k) y ≡ inRun a b (x + k)
 
 -- the covered pixels of row y are those from column a up to but not including b
