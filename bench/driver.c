@@ -44,6 +44,7 @@ const struct named workloads[] = {
     {"middle", "1,000-pixel triangles"},
     {"full", "full-screen triangles"},
     {"slivers", "slivers 600 long, 1 high"},
+    {"small_any", "50-pixel triangles, any shape"},
     {"small_stout", "50-pixel triangles, not thin"},
     {"middle_stout", "1,000-pixel triangles, not thin"},
     {"clear", "clear"},
@@ -116,9 +117,9 @@ static void add_stout(int32_t pixels)
     }
 }
 
-/* Triangles of this many pixels and of any shape: three points of a square,
- * scaled. */
-static void add_of_any_shape(int32_t pixels)
+/* Triangles of this many pixels: three points of a square, scaled. Their box
+ * has at most `most` times their pixels; of any shape where `most` is 0. */
+static void add_of_shape(int32_t pixels, double most)
 {
     enum { SIDE = 1 << 20 };
     for (;;) {
@@ -127,6 +128,10 @@ static void add_of_any_shape(int32_t pixels)
             p[k] = between(0, SIDE);
         scale = 8 * sqrt(2.0 * pixels / fabs((p[2] - p[0]) * (p[5] - p[1]) - (p[4] - p[0]) * (p[3] - p[1])));
         if (!(scale * SIDE < 8 * (HEIGHT - 1)))
+            continue;
+        double left = fmin(p[0], fmin(p[2], p[4])), right = fmax(p[0], fmax(p[2], p[4]));
+        double top = fmin(p[1], fmin(p[3], p[5])), bottom = fmax(p[1], fmax(p[3], p[5]));
+        if (most != 0 && (right - left) * (bottom - top) * scale * scale / 64 > most * pixels)
             continue;
         int32_t reach = (int32_t)(scale * SIDE);
         int32_t x = between(0, 8 * (WIDTH - 1) - reach), y = between(0, 8 * (HEIGHT - 1) - reach), v[6];
@@ -159,10 +164,13 @@ void prepare(const char *name)
     set_screen(WIDTH, HEIGHT);
     if (!strcmp(name, "small")) {
         for (int k = 0; k < 2000; k++)
-            add_of_any_shape(50);
+            add_of_shape(50, 32);
+    } else if (!strcmp(name, "small_any")) {
+        for (int k = 0; k < 2000; k++)
+            add_of_shape(50, 0);
     } else if (!strcmp(name, "middle")) {
         for (int k = 0; k < 200; k++)
-            add_of_any_shape(1000);
+            add_of_shape(1000, 0);
     } else if (!strcmp(name, "small_stout")) {
         for (int k = 0; k < 2000; k++)
             add_stout(50);
