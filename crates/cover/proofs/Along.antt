@@ -1,7 +1,7 @@
 -- Laws of one edge along the pixels: its lowered value is an affine function of the pixel, stays within 32 bits, is not negative exactly inside,
 -- and rises or falls along a row. Everything is said once over the edge.
 use Prim.Native.Nat.{ℕ, zero, suc, _+_, _*_, _-_, _≤_, _<_}
-use mathlib.Core.Path.{_≡_, refl, _∙_, ap}
+use mathlib.Core.Path.{_≡_, refl, sym, _∙_, ap}
 use mathlib.Core.List.{List, [], _∷_}
 use mathlib.Core.Bool.{Bool, true, false, _&&_, _||_}
 use native.Mathlib.Omega.{arith}
@@ -12,7 +12,7 @@ use mir.Val.{toZ, ofZ}
 use mir.ValLaws.{toZ-ofZ}
 use borrow.Author.Tests.{lt-ltb, le-ltb}
 use Rattle.ints.proofs.Poly.{Exp, var, con, _⊕_, _⊖_, _⊗_, solve}
-use Rattle.ints.proofs.Order.{leZ-true, ltZ-true, ltZ-false, nonNeg-true, nonNeg-false, le-of, le-to, lt-to, mul-nonneg, pos-le}
+use Rattle.ints.proofs.Order.{leZ-true, ltZ-true, nonNeg-true, nonNeg-false, le-of, le-to, lt-to, mul-nonneg, pos-le}
 use Rattle.ints.proofs.Bounds.{Within, within-pos, within-range, within-lit, within-sub, within-mul, fits-32}
 use Rattle.rules.specs.Turns.{choose}
 use Rattle.rules.specs.Triangles.{Edge, dx, dy, edge1, edge2, edge3, edgeValue, sampleOffset, sample, keepsZero, inside, positive, isZero, negative}
@@ -48,8 +48,22 @@ below (negsuc n) = refl
 pub positive-true : (z : ℤ) → positive z ≡ true → pos 0 <ℤ z
 positive-true z h = ltZ-true (pos 0) z (above z ∙ h)
 
-pub positive-false : (z : ℤ) → positive z ≡ false → z ≤ℤ pos 0
-positive-false z h = ltZ-false (pos 0) z (above z ∙ h)
+-- a number has one sign
+
+pub positive-only : (z : ℤ) → positive z ≡ true → (negative z ≡ false) × (isZero z ≡ false)
+positive-only (pos zero) h = (refl, sym h)
+positive-only (pos (suc n)) h = (refl, refl)
+positive-only (negsuc n) h = (sym h, refl)
+
+pub negative-only : (z : ℤ) → negative z ≡ true → (positive z ≡ false) × (isZero z ≡ false)
+negative-only (pos zero) h = (refl, sym h)
+negative-only (pos (suc n)) h = (sym h, refl)
+negative-only (negsuc n) h = (refl, refl)
+
+pub neither : (z : ℤ) → positive z ≡ false → negative z ≡ false → isZero z ≡ true
+neither (pos zero) h k = refl
+neither (pos (suc n)) h k = sym h
+neither (negsuc n) h k = sym k
 
 -- an affine function of the pixel
 
@@ -125,6 +139,21 @@ module _ (e : Edge) (w : EdgeWithin e) where
   pub sided-within : (x y : ℕ) → x ≤ 640 → y ≤ 512 → Within 419659777 (sided e x y)
   unfolding sided
   sided-within x y hx hy = within-sub (value-within x y hx hy) (loss-within (keepsZero e))
+
+  -- of a level edge
+  pub level-within : isZero (dy e) ≡ true → (x y : ℕ) → x ≤ 640 → y ≤ 512 → Within 201441281 (sided e x y)
+  unfolding sided edgeValue sample
+  level-within z x y hx hy =
+      within-sub
+      (within-sub
+      (within-mul (within-sub (within-pos {n = 4103} (omega arith)) (w .in-y1)) (within-sub (w .in-x2) (w .in-x1)))
+      (within-mul (within-sub (within-pos {n = 5127} (omega arith)) (w .in-x1)) (none (dy e) z)))
+      (loss-within (keepsZero e))
+    where
+      none : (d : ℤ) → isZero d ≡ true → Within 0 d
+      none (pos zero) h = within-lit tt
+      none (pos (suc n)) h = absurd (let i : _≡_ {A = ℕ} 0 1 = cc in omega arith)
+      none (negsuc n) h = absurd (let i : _≡_ {A = ℕ} 0 1 = cc in omega arith)
 
 -- rising and falling
 

@@ -1,18 +1,18 @@
--- Laws of masks: sixteen leaves fit 16 bits, the ones of a mask are the leaves it names, equal leaves give equal masks, and
--- the mask of a run is the difference of two powers of two.
+-- Laws of masks: sixteen leaves fit 16 bits, the ones of a mask are the leaves it names, and the mask of a run is the difference
+-- of two powers of two.
 use Prim.Native.Nat.{ℕ, zero, suc, _+_, _*_, _-_, _/_, _^_, _≤_, _<_}
-use mathlib.Core.Path.{_≡_, refl, sym, _∙_, ap, ap₂}
-use mathlib.Core.Bool.{Bool, true, false, not, _&&_}
+use mathlib.Core.Path.{_≡_, refl, sym, _∙_, ap}
+use mathlib.Core.Bool.{Bool, true, false, _&&_}
 use native.Mathlib.Nat.{pow-suc}
 use native.Mathlib.Omega.{arith}
 use lib.Dec.{ltb, leb}
 use lib.Count.{ones, onesIn, ones-cat}
 use lib.Pow.{pow-mono, pow-add, shl-shr}
-use borrow.Author.Tests.{lt-ltb, le-ltb, ltb-true, ltb-false, leb-true, leb-false}
+use borrow.Author.Tests.{ltb-true, ltb-false, leb-true, leb-false}
 use Rattle.rules.specs.Turns.{bit, howMany}
-use Rattle.rules.proofs.Choices.{bit-le, leb-not}
+use Rattle.rules.proofs.Choices.{bit-le}
 use Rattle.cover.specs.Mask.{maskOf}
-use Rattle.cover.specs.Runs.{inRun, LeavesBefore}
+use Rattle.cover.specs.Runs.{inRun}
 
 one : (b : Bool) → ones (bit b) ≡ bit b
 unfolding ones onesIn
@@ -20,7 +20,7 @@ one true = refl
 one false = refl
 
 module _ (f : ℕ → Bool) where
-  pub mask-lt : (k : ℕ) → maskOf f k < 2 ^ k
+  mask-lt : (k : ℕ) → maskOf f k < 2 ^ k
   unfolding maskOf
   mask-lt zero = omega arith
   mask-lt (suc k) =
@@ -41,11 +41,6 @@ module _ (f : ℕ → Bool) where
       ones-cat 1 (maskOf f k) (bit (f k)) (omega (arith, bit-le (f k)))
       ∙ ap (λ (n : ℕ). n + ones (bit (f k))) (mask-ones k)
       ∙ ap (λ (n : ℕ). howMany f k + n) (one (f k))
-
-  pub mask-same : (g : ℕ → Bool) (k : ℕ) → ((i : ℕ) → i < k → f i ≡ g i) → maskOf f k ≡ maskOf g k
-  unfolding maskOf
-  mask-same g zero h = refl
-  mask-same g (suc k) h = rw (mask-same g k (λ i l. h i (omega arith)), h k (omega arith))
 
 -- 2 ^ (n - k) is one more than the mask of the leaves from k on: one leaf more doubles it once k is reached, and before that it is 1
 from-on : (n k : ℕ) → k ≤ n → 2 ^ (suc n - k) ≡ 2 ^ (n - k) * 2
@@ -86,24 +81,6 @@ shifted k h =
     let p : 65536 ≡ 2 ^ (16 - k) * 2 ^ k = sym (ap (λ (i : ℕ). 2 ^ i) e) ∙ pow-add 2 (16 - k) k in
     ap (λ (i : ℕ). i / 2 ^ k) p ∙ shl-shr (2 ^ (16 - k)) k
 
--- the run in a group, by the leaves before its two ends
-module _ {x from to first past : ℕ} (f : LeavesBefore x from first) (p : LeavesBefore x to past) where
-  mask-part : maskOf (λ k. inRun from to (x + k)) 16 ≡ maskOf (inRun first past) 16
-  mask-part =
-      mask-same (λ k. inRun from to (x + k)) (inRun first past) 16
-      (λ k h. ap₂ _&&_ (leb-not from (x + k) ∙ ap not (sym (f .these k h)) ∙ sym (leb-not first k)) (sym (p .these k h)))
-
-  ordered : from ≤ to → first ≤ past
-  ordered o = go (leb first past) refl
-    where
-      go : (b : Bool) → leb first past ≡ b → first ≤ past
-      go true e = leb-true first past e
-      go false e =
-          let l : past < first = leb-false first past e in
-          let h : past < 16 = omega (arith, f .few) in
-          let before : x + past < from = ltb-true (x + past) from (sym (f .these past h) ∙ lt-ltb past first l) in
-          let beyond : to ≤ x + past = ltb-false (x + past) to (sym (p .these past h) ∙ le-ltb past past (omega arith)) in
-          absurd (omega arith)
-
-  pub part-mask : from ≤ to → maskOf (λ k. inRun from to (x + k)) 16 + 65536 / 2 ^ past ≡ 65536 / 2 ^ first
-  part-mask o = omega (arith, mask-part, mask-run first past 16 (ordered o), shifted first (f .few), shifted past (p .few))
+-- so the mask of the leaves from lo up to but not including hi is the difference of two shifts
+pub shifted-run : {lo hi : ℕ} → lo ≤ hi → hi ≤ 16 → maskOf (inRun lo hi) 16 + 65536 / 2 ^ hi ≡ 65536 / 2 ^ lo
+shifted-run {lo} {hi} o h = omega (arith, mask-run lo hi 16 o, shifted lo (omega arith), shifted hi h)

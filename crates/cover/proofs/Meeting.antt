@@ -1,5 +1,5 @@
 -- The three edges' insides meet in one run: it begins at the last mark where an inside begins and ends at the first one where an inside ends.
-use Prim.Native.Nat.{ℕ, _+_, _-_, _≤_, _<_}
+use Prim.Native.Nat.{ℕ, _+_, _*_, _-_, _≤_, _<_}
 use mathlib.Core.Path.{_≡_, refl, sym, _∙_, ap, ap₂}
 use mathlib.Core.Bool.{Bool, true, false, not, _&&_, _||_}
 use native.Mathlib.Omega.{arith}
@@ -8,13 +8,14 @@ use borrow.Author.Tests.{lt-ltb, le-ltb, ltb-true, ltb-false, leb-true, leb-fals
 use Rattle.rules.specs.declared.Triangle.{Triangle}
 use Rattle.rules.specs.Turns.{choose}
 use Rattle.rules.specs.Triangles.{Edge, edge1, edge2, edge3, sample, inside, insideAll}
-use Rattle.cover.specs.declared.Part.{Part}
 use Rattle.cover.specs.declared.Side.{Side}
 use Rattle.cover.specs.declared.Sides.{Sides}
 use Rattle.cover.specs.declared.Marks.{Marks}
-use Rattle.cover.specs.Parts.{raise}
+use Rattle.cover.specs.Units.{unit, raise}
 use Rattle.cover.specs.Side.{SideOf, SidesOf, MarkOf, MarksOf}
-use Rattle.cover.specs.Runs.{begun, ended, RunOf}
+use Rattle.cover.specs.Runs.{begun, ended, columnOf, RunOf}
+use Rattle.rules.specs.Numbers.{verticesInRange}
+use Rattle.cover.proofs.Along.{EdgeWithin, edge-within, edges-in-range}
 use Rattle.cover.proofs.Turning.{mark-inside}
 use Rattle.cover.proofs.Columns.{run-beyond}
 
@@ -80,22 +81,22 @@ ended-ge m true g = go (ltb g m) refl
 -- of the three edges
 
 abbrev pub leastOf : Marks → Sides → ℕ
-leastOf m d = begun (m .p .quotient) (d .p .ends) (begun (m .q .quotient) (d .q .ends) (begun (m .r .quotient) (d .r .ends) raise))
+leastOf m d = begun (m .p) (d .p .ends) (begun (m .q) (d .q .ends) (begun (m .r) (d .r .ends) raise))
 
 abbrev pub mostOf : Marks → Sides → ℕ → ℕ
-mostOf m d w = ended (m .p .quotient) (d .p .ends) (ended (m .q .quotient) (d .q .ends) (ended (m .r .quotient) (d .r .ends) (raise - w)))
+mostOf m d w = ended (m .p) (d .p .ends) (ended (m .q) (d .q .ends) (ended (m .r) (d .r .ends) (raise - unit * w)))
 
 pub least-le : (m : Marks) (d : Sides) → leastOf m d ≤ raise
 least-le m d =
-    let c = begun (m .r .quotient) (d .r .ends) raise in
-    let b = begun (m .q .quotient) (d .q .ends) c in
-    omega (arith, begun-le (m .r .quotient) (d .r .ends) raise, begun-le (m .q .quotient) (d .q .ends) c, begun-le (m .p .quotient) (d .p .ends) b)
+    let c = begun (m .r) (d .r .ends) raise in
+    let b = begun (m .q) (d .q .ends) c in
+    omega (arith, begun-le (m .r) (d .r .ends) raise, begun-le (m .q) (d .q .ends) c, begun-le (m .p) (d .p .ends) b)
 
-pub most-ge : (m : Marks) (d : Sides) (w : ℕ) → raise - w ≤ mostOf m d w
+pub most-ge : (m : Marks) (d : Sides) (w : ℕ) → raise - unit * w ≤ mostOf m d w
 most-ge m d w =
-    let c = ended (m .r .quotient) (d .r .ends) (raise - w) in
-    let b = ended (m .q .quotient) (d .q .ends) c in
-    omega (arith, ended-ge (m .r .quotient) (d .r .ends) (raise - w), ended-ge (m .q .quotient) (d .q .ends) c, ended-ge (m .p .quotient) (d .p .ends) b)
+    let c = ended (m .r) (d .r .ends) (raise - unit * w) in
+    let b = ended (m .q) (d .q .ends) c in
+    omega (arith, ended-ge (m .r) (d .r .ends) (raise - unit * w), ended-ge (m .q) (d .q .ends) c, ended-ge (m .p) (d .p .ends) b)
 
 -- an edge's inside, as what it asks of the beginning and what it asks of the end
 asked : (e l g : Bool) → choose e g l ≡ (e || l) && (not e || g)
@@ -103,12 +104,12 @@ asked true l g = refl
 asked false true g = refl
 asked false false g = refl
 
-edge-asks : (e : Edge) (d : Side) (y : ℕ) (m : Part) → SideOf e d → MarkOf e y (d .across) m → (x : ℕ) → x < 1024
-    → inside e (sample x y) ≡ (d .ends || leb raise (x + m .quotient)) && (not (d .ends) || ltb (x + m .quotient) raise)
-edge-asks e d y m o h x l =
-    mark-inside e y (d .across) m (o .is-across) h x l
-    ∙ ap (λ (b : Bool). choose b (ltb (x + m .quotient) raise) (leb raise (x + m .quotient))) (sym (o .is-ends))
-    ∙ asked (d .ends) (leb raise (x + m .quotient)) (ltb (x + m .quotient) raise)
+edge-asks : (e : Edge) → EdgeWithin e → (d : Side) (y m : ℕ) → y ≤ 480 → SideOf e d → MarkOf e y m → (x : ℕ) → x < 640
+    → inside e (sample x y) ≡ (d .ends || leb raise (unit * x + m)) && (not (d .ends) || ltb (unit * x + m) raise)
+edge-asks e v d y m n o h x l =
+    mark-inside e v y n m h x l
+    ∙ ap (λ (b : Bool). choose b (ltb (unit * x + m) raise) (leb raise (unit * x + m))) (sym (o .is-ends))
+    ∙ asked (d .ends) (leb raise (unit * x + m)) (ltb (unit * x + m) raise)
 
 sorted : (a₁ b₁ a₂ b₂ a₃ b₃ : Bool)
     → ((a₁ && b₁) && (a₂ && b₂)) && (a₃ && b₃) ≡ (a₁ && (a₂ && (a₃ && true))) && (b₁ && (b₂ && (b₃ && true)))
@@ -123,34 +124,36 @@ sorted true true true false true b₃ = refl
 sorted true true true true true true = refl
 sorted true true true true true false = refl
 
-module _ (t : Triangle) (y : ℕ) (d : Sides) (m : Marks) (o : SidesOf t d) (h : MarksOf t y d m) (w : ℕ) (k : w ≤ 640) where
-  all-inside : (x : ℕ) → x < w → insideAll t (sample x y) ≡ leb raise (x + leastOf m d) && ltb (x + mostOf m d w) raise
+module _ (t : Triangle) (y : ℕ) (v : verticesInRange t ≡ true) (i : y ≤ 480) (d : Sides) (m : Marks) (o : SidesOf t d) (h : MarksOf t y m) (w : ℕ) (k : w ≤ 640) where
+  all-inside : (x : ℕ) → x < w → insideAll t (sample x y) ≡ leb raise (unit * x + leastOf m d) && ltb (unit * x + mostOf m d w) raise
   unfolding insideAll
   all-inside x l =
-      let n : x < 1024 = omega arith in
-      let c = begun (m .r .quotient) (d .r .ends) raise in
-      let f = ended (m .r .quotient) (d .r .ends) (raise - w) in
-      let first : leb raise (x + raise) ≡ true = le-leb raise (x + raise) (omega arith) in
-      let last : ltb (x + (raise - w)) raise ≡ true = lt-ltb (x + (raise - w)) raise (omega arith) in
+      let n : x < 640 = omega arith in
+      let u = unit * x in
+      let r = edges-in-range t v in
+      let c = begun (m .r) (d .r .ends) raise in
+      let f = ended (m .r) (d .r .ends) (raise - unit * w) in
+      let first : leb raise (unit * x + raise) ≡ true = le-leb raise (unit * x + raise) (omega arith) in
+      let last : ltb (unit * x + (raise - unit * w)) raise ≡ true = lt-ltb (unit * x + (raise - unit * w)) raise (omega arith) in
       ap₂ _&&_
-      (ap₂ _&&_ (edge-asks (edge1 t) (d .p) y (m .p) (o .of1) (h .of1) x n) (edge-asks (edge2 t) (d .q) y (m .q) (o .of2) (h .of2) x n))
-      (edge-asks (edge3 t) (d .r) y (m .r) (o .of3) (h .of3) x n)
-      ∙ sorted (d .p .ends || leb raise (x + m .p .quotient)) (not (d .p .ends) || ltb (x + m .p .quotient) raise)
-      (d .q .ends || leb raise (x + m .q .quotient)) (not (d .q .ends) || ltb (x + m .q .quotient) raise)
-      (d .r .ends || leb raise (x + m .r .quotient)) (not (d .r .ends) || ltb (x + m .r .quotient) raise)
+      (ap₂ _&&_ (edge-asks (edge1 t) (edge-within (edge1 t) (r .0)) (d .p) y (m .p) i (o .of1) (h .of1) x n) (edge-asks (edge2 t) (edge-within (edge2 t) (r .1)) (d .q) y (m .q) i (o .of2) (h .of2) x n))
+      (edge-asks (edge3 t) (edge-within (edge3 t) (r .2)) (d .r) y (m .r) i (o .of3) (h .of3) x n)
+      ∙ sorted (d .p .ends || leb raise (unit * x + m .p)) (not (d .p .ends) || ltb (unit * x + m .p) raise)
+      (d .q .ends || leb raise (unit * x + m .q)) (not (d .q .ends) || ltb (unit * x + m .q) raise)
+      (d .r .ends || leb raise (unit * x + m .r)) (not (d .r .ends) || ltb (unit * x + m .r) raise)
       ∙ ap₂ _&&_
       (sym
-      (begun-at x (m .p .quotient) (d .p .ends) (begun (m .q .quotient) (d .q .ends) c)
-      ∙ ap (λ (u : Bool). (d .p .ends || leb raise (x + m .p .quotient)) && u)
-      (begun-at x (m .q .quotient) (d .q .ends) c
-      ∙ ap (λ (u : Bool). (d .q .ends || leb raise (x + m .q .quotient)) && u)
-      (begun-at x (m .r .quotient) (d .r .ends) raise ∙ ap (λ (u : Bool). (d .r .ends || leb raise (x + m .r .quotient)) && u) first))))
+      (begun-at u (m .p) (d .p .ends) (begun (m .q) (d .q .ends) c)
+      ∙ ap (λ (u : Bool). (d .p .ends || leb raise (unit * x + m .p)) && u)
+      (begun-at u (m .q) (d .q .ends) c
+      ∙ ap (λ (u : Bool). (d .q .ends || leb raise (unit * x + m .q)) && u)
+      (begun-at u (m .r) (d .r .ends) raise ∙ ap (λ (u : Bool). (d .r .ends || leb raise (unit * x + m .r)) && u) first))))
       (sym
-      (ended-at x (m .p .quotient) (d .p .ends) (ended (m .q .quotient) (d .q .ends) f)
-      ∙ ap (λ (u : Bool). (not (d .p .ends) || ltb (x + m .p .quotient) raise) && u)
-      (ended-at x (m .q .quotient) (d .q .ends) f
-      ∙ ap (λ (u : Bool). (not (d .q .ends) || ltb (x + m .q .quotient) raise) && u)
-      (ended-at x (m .r .quotient) (d .r .ends) (raise - w) ∙ ap (λ (u : Bool). (not (d .r .ends) || ltb (x + m .r .quotient) raise) && u) last))))
+      (ended-at u (m .p) (d .p .ends) (ended (m .q) (d .q .ends) f)
+      ∙ ap (λ (u : Bool). (not (d .p .ends) || ltb (unit * x + m .p) raise) && u)
+      (ended-at u (m .q) (d .q .ends) f
+      ∙ ap (λ (u : Bool). (not (d .q .ends) || ltb (unit * x + m .q) raise) && u)
+      (ended-at u (m .r) (d .r .ends) (raise - unit * w) ∙ ap (λ (u : Bool). (not (d .r .ends) || ltb (unit * x + m .r) raise) && u) last))))
 
   -- no column is both from the beginning on and before the end
   pub run-none : leastOf m d ≤ mostOf m d w → RunOf t y w (record { from = 0; to = 0 })
@@ -158,25 +161,25 @@ module _ (t : Triangle) (y : ℕ) (d : Sides) (m : Marks) (o : SidesOf t d) (h :
       record {
         ordered = omega arith;
         limited = omega arith;
-        run = λ x h. all-inside x h ∙ go x (leb raise (x + leastOf m d)) refl ∙ sym (run-beyond 0 0 x (omega arith));
+        run = λ x h. all-inside x h ∙ go x (leb raise (unit * x + leastOf m d)) refl ∙ sym (run-beyond 0 0 x (omega arith));
       }
     where
-      go : (x : ℕ) (u : Bool) → leb raise (x + leastOf m d) ≡ u → u && ltb (x + mostOf m d w) raise ≡ false
-      go x true e = le-ltb (x + mostOf m d w) raise (omega (arith, leb-true raise (x + leastOf m d) e))
+      go : (x : ℕ) (u : Bool) → leb raise (unit * x + leastOf m d) ≡ u → u && ltb (unit * x + mostOf m d w) raise ≡ false
+      go x true e = le-ltb (unit * x + mostOf m d w) raise (omega (arith, leb-true raise (unit * x + leastOf m d) e))
       go x false e = refl
 
-  pub run-some : mostOf m d w < leastOf m d → RunOf t y w (record { from = raise - leastOf m d; to = raise - mostOf m d w })
+  pub run-some : mostOf m d w < leastOf m d → RunOf t y w (record { from = columnOf (leastOf m d); to = columnOf (mostOf m d w) })
   run-some l =
       record {
         ordered = omega arith;
         limited = omega (arith, most-ge m d w);
-        run = λ x h. all-inside x h ∙ ap₂ _&&_ (from x (leb raise (x + leastOf m d)) refl) (to x (ltb (x + mostOf m d w) raise) refl);
+        run = λ x h. all-inside x h ∙ ap₂ _&&_ (from x (leb raise (unit * x + leastOf m d)) refl) (to x (ltb (unit * x + mostOf m d w) raise) refl);
       }
     where
-      from : (x : ℕ) (u : Bool) → leb raise (x + leastOf m d) ≡ u → u ≡ leb (raise - leastOf m d) x
-      from x true e = sym (le-leb (raise - leastOf m d) x (omega (arith, leb-true raise (x + leastOf m d) e)))
-      from x false e = sym (lt-leb (raise - leastOf m d) x (omega (arith, least-le m d, leb-false raise (x + leastOf m d) e)))
+      from : (x : ℕ) (u : Bool) → leb raise (unit * x + leastOf m d) ≡ u → u ≡ leb (columnOf (leastOf m d)) x
+      from x true e = sym (le-leb (columnOf (leastOf m d)) x (omega (arith, leb-true raise (unit * x + leastOf m d) e)))
+      from x false e = sym (lt-leb (columnOf (leastOf m d)) x (omega (arith, least-le m d, leb-false raise (unit * x + leastOf m d) e)))
 
-      to : (x : ℕ) (u : Bool) → ltb (x + mostOf m d w) raise ≡ u → u ≡ ltb x (raise - mostOf m d w)
-      to x true e = sym (lt-ltb x (raise - mostOf m d w) (omega (arith, ltb-true (x + mostOf m d w) raise e)))
-      to x false e = sym (le-ltb x (raise - mostOf m d w) (omega (arith, ltb-false (x + mostOf m d w) raise e)))
+      to : (x : ℕ) (u : Bool) → ltb (unit * x + mostOf m d w) raise ≡ u → u ≡ ltb x (columnOf (mostOf m d w))
+      to x true e = sym (lt-ltb x (columnOf (mostOf m d w)) (omega (arith, ltb-true (unit * x + mostOf m d w) raise e)))
+      to x false e = sym (le-ltb x (columnOf (mostOf m d w)) (omega (arith, ltb-false (unit * x + mostOf m d w) raise e)))

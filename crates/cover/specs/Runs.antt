@@ -1,5 +1,5 @@
--- Runs of columns: a row's, and how much of it lies in a group.
-use Prim.Native.Nat.{ℕ, _+_, _≤_, _<_}
+-- Runs of columns, and which one is a row's.
+use Prim.Native.Nat.{ℕ, _+_, _-_, _/_, _≤_, _<_}
 use mathlib.Core.Path.{_≡_}
 use mathlib.Core.Bool.{Bool, _&&_}
 use lib.Dec.{ltb, leb}
@@ -7,6 +7,7 @@ use Rattle.rules.specs.declared.Triangle.{Triangle}
 use Rattle.rules.specs.Turns.{choose}
 use Rattle.rules.specs.Triangles.{sample, insideAll}
 use Rattle.cover.specs.declared.Span.{Span}
+use Rattle.cover.specs.Units.{unit, raise}
 
 -- columns from `from` up to but not including `to`
 abbrev pub inRun : ℕ → ℕ → ℕ → Bool
@@ -20,10 +21,9 @@ begun mark ends least = choose ends least (choose (ltb mark least) mark least)
 abbrev pub ended : ℕ → Bool → ℕ → ℕ
 ended mark ends most = choose ends (choose (ltb most mark) mark most) most
 
--- the first r leaves of the group that starts at column x, and no others, lie before column n
-pub record LeavesBefore (x n r : ℕ) : Type 0 where
-  pub few : r ≤ 16
-  pub these : (k : ℕ) → k < 16 → ltb k r ≡ ltb (x + k) n
+-- the first column that is not before a mark
+abbrev pub columnOf : ℕ → ℕ
+columnOf mark = (raise - mark + (unit - 1)) / unit
 
 -- the pixels of row y inside all three edges, among the first w, are those of the columns r
 pub record RunOf (t : Triangle) (y w : ℕ) (r : Span) : Type 0 where

@@ -1,18 +1,18 @@
 -- What a side and a mark hold. The value of an edge, less 1 where its zeros are outside, is taken with the sign that makes it rise along a row;
--- 1,024 times that and the column has the same sign in the first 1,024 columns, and rises by 1 at least, so that in a row it turns at one column.
-use Prim.Native.Nat.{ℕ}
+-- in a row it turns at one column, which its value by its step across says. A level edge does not turn: 640 times its value, rising by 1, keeps
+-- its sign in every column of a screen.
+use Prim.Native.Nat.{ℕ, _+_, _*_, _≤_, _<_}
 use mathlib.Core.Path.{_≡_}
 use mathlib.Core.Bool.{Bool, _&&_}
-use lib.IntN.{ℤ, pos, negsuc, _+ℤ_, _-ℤ_, _*ℤ_}
+use lib.IntN.{ℤ, pos, negsuc, natAbs, _-ℤ_, _*ℤ_}
 use Rattle.rules.specs.declared.Triangle.{Triangle}
 use Rattle.rules.specs.Turns.{choose}
-use Rattle.rules.specs.Triangles.{Edge, dx, dy, edge1, edge2, edge3, edgeValue, sample, keepsZero, positive}
+use Rattle.rules.specs.Triangles.{Edge, dx, dy, edge1, edge2, edge3, edgeValue, sample, keepsZero, positive, isZero}
 use Rattle.rules.specs.Numbers.{vertexInRange}
-use Rattle.cover.specs.declared.Part.{Part}
 use Rattle.cover.specs.declared.Side.{Side}
 use Rattle.cover.specs.declared.Sides.{Sides}
 use Rattle.cover.specs.declared.Marks.{Marks}
-use Rattle.cover.specs.Parts.{Parted, Addable}
+use Rattle.cover.specs.Units.{unit, raise, lift, Rounded}
 
 abbrev pub edgeFrom : ℤ → ℤ → ℤ → ℤ → Edge
 edgeFrom a b c d = record { x1 = a; y1 = b; x2 = c; y2 = d }
@@ -28,16 +28,22 @@ sided e x y = edgeValue e (sample x y) -ℤ choose (keepsZero e) (pos 0) (pos 1)
 abbrev pub rising : Edge → ℕ → ℕ → ℤ
 rising e x y = choose (positive (dy e)) (negsuc 0 -ℤ sided e x y) (sided e x y)
 
--- what a column and a row add to 1,024 times that and the column
-abbrev pub acrossOf : ℤ → ℤ
-acrossOf dy = choose (positive dy) (pos 8192 *ℤ dy +ℤ pos 1) (pos 1 -ℤ pos 8192 *ℤ dy)
+-- what a column adds to the rising value times `times`
+abbrev pub acrossOf : ℤ → ℕ
+acrossOf dy = choose (isZero dy) 1 (8 * natAbs dy)
+
+abbrev pub times : ℤ → ℕ
+times dy = choose (isZero dy) 640 1
+
+-- that in parts of a column, and what a row adds to the rising value
+abbrev pub scaleOf : ℤ → ℤ
+scaleOf dy = pos (unit * times dy)
 
 abbrev pub downOf : ℤ → ℤ → ℤ
-downOf dx dy = choose (positive dy) (pos 0 -ℤ pos 8192 *ℤ dx) (pos 8192 *ℤ dx)
+downOf dx dy = choose (positive dy) (pos 0 -ℤ pos 8 *ℤ dx) (pos 8 *ℤ dx)
 
 pub record SideOf (e : Edge) (d : Side) : Type 0 where
-  pub is-across : pos (d .across) ≡ acrossOf (dy e)
-  pub is-down : Parted (downOf (dx e) (dy e)) (d .across) (d .down)
+  pub is-down : Rounded (scaleOf (dy e) *ℤ downOf (dx e) (dy e)) (acrossOf (dy e)) lift 1 (d .down)
   pub is-ends : d .ends ≡ positive (dy e)
 
 pub record SidesOf (t : Triangle) (d : Sides) : Type 0 where
@@ -45,17 +51,21 @@ pub record SidesOf (t : Triangle) (d : Sides) : Type 0 where
   pub of2 : SideOf (edge2 t) (d .q)
   pub of3 : SideOf (edge3 t) (d .r)
 
--- 1,024 times the rising value at the start of row y, parted by a
-abbrev pub MarkOf : Edge → ℕ → ℕ → Part → Type 0
-MarkOf e y a m = Parted (pos 1024 *ℤ rising e 0 y) a m
+-- how far before column 0 the edge turns in row y; a rounding for each row so far
+abbrev pub MarkOf : Edge → ℕ → ℕ → Type 0
+MarkOf e y m = Rounded (scaleOf (dy e) *ℤ rising e 0 y) (acrossOf (dy e)) raise (y + 1) m
 
-pub record MarksOf (t : Triangle) (y : ℕ) (d : Sides) (m : Marks) : Type 0 where
-  pub of1 : MarkOf (edge1 t) y (d .p .across) (m .p)
-  pub of2 : MarkOf (edge2 t) y (d .q .across) (m .q)
-  pub of3 : MarkOf (edge3 t) y (d .r .across) (m .r)
+pub record MarksOf (t : Triangle) (y : ℕ) (m : Marks) : Type 0 where
+  pub of1 : MarkOf (edge1 t) y (m .p)
+  pub of2 : MarkOf (edge2 t) y (m .q)
+  pub of3 : MarkOf (edge3 t) y (m .r)
 
--- marks that can be taken a row down
+-- a mark that can be taken a row down, within 64 bits and not negative
+pub record Addable (m down : ℕ) : Type 0 where
+  pub low : lift ≤ m + down
+  pub high : m + down < 18446744073709551616
+
 pub record CanGoBelow (m : Marks) (d : Sides) : Type 0 where
-  pub first : Addable (d .p .across) (m .p) (d .p .down)
-  pub second : Addable (d .q .across) (m .q) (d .q .down)
-  pub third : Addable (d .r .across) (m .r) (d .r .down)
+  pub first : Addable (m .p) (d .p .down)
+  pub second : Addable (m .q) (d .q .down)
+  pub third : Addable (m .r) (d .r .down)

@@ -2,20 +2,15 @@
 pub mod bounds;
 pub mod extent;
 pub mod marking;
+pub mod masks;
 pub mod parts;
 pub mod runs;
 pub mod setup;
+pub mod units;
 
-// A number parted by a divisor: the quotient, raised by 2^40, and the rest.
-pub struct Part {
-    pub quotient: u64,
-    pub rest: u64,
-}
-
-// One edge: what a column and a row add to 1,024 times its rising value with the column added; `ends`: going right the inside ends.
+// One edge: what a row adds to its mark, raised by LIFT; `ends`: going right the inside ends.
 pub struct Side {
-    pub across: u64,
-    pub down: Part,
+    pub down: u64,
     pub ends: bool,
 }
 
@@ -26,11 +21,11 @@ pub struct Sides {
     pub r: Side,
 }
 
-// Each edge's value at the start of a row, parted by its step across: the quotient marks the column where it turns.
+// How far before column 0 each edge turns in a row, in parts of a column, rounded up and raised by RAISE.
 pub struct Marks {
-    pub p: Part,
-    pub q: Part,
-    pub r: Part,
+    pub p: u64,
+    pub q: u64,
+    pub r: u64,
 }
 
 // From `from` up to but not including `to`.

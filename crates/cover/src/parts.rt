@@ -1,47 +1,47 @@
-// Numbers parted by a divisor.
-use crate::Part;
+// An edge's values in parts of a column.
+use crate::units::above;
 ghost use mathlib.Core.Path.{_≡_};
 ghost use Prim.Native.Nat.{_≤_};
-ghost use lib.IntN.{natAbs};
-ghost use Rattle.cover.specs.Parts.{Parted, Addable, partSum};
+ghost use lib.IntN.{natAbs, _*ℤ_};
+ghost use Rattle.cover.specs.Units.{Rounded};
+ghost use Rattle.cover.specs.Side.{acrossOf, scaleOf};
 
-// What a quotient is raised by, so that none is negative.
-pub const RAISE: u64 = 1099511627776;
+// The parts of a column, and of 640 columns.
+const SCALE: i64 = 67108864;
 
-// Quotient and rest, rounded down on both sides of 0.
-pub fn parted(z: i64, a: u64) -> Part
-    requires { ⌜ (natAbs z ≤ 549755813888) × (1 ≤ a) ⌝ }
-    ensures { λ r. ⌜ Parted z a r ⌝ }
+const LEVEL_SCALE: i64 = 42949672960;
+
+// What one column adds to the rising value, and 1 where that is nothing.
+fn across(dy: i64) -> u64
+    requires { ⌜ natAbs dy ≤ 16384 ⌝ }
+    ensures { λ r. ⌜ r ≡ acrossOf dy ⌝ }
 {
-    if z < 0 {
-        let n = (-1 - z) as u64;
-        let back = n / a + 1;
-        let over = n % a + 1;
-        return Part {
-            quotient: RAISE - back,
-            rest: a - over,
-        };
+    if 0 < dy {
+        return (8 * dy) as u64;
     }
-    let n = z as u64;
-    let on = n / a;
-    Part {
-        quotient: RAISE + on,
-        rest: n % a,
+    if dy < 0 {
+        return (0 - 8 * dy) as u64;
     }
+    1
 }
 
-// The sum of two numbers that are parted by a: a rest that reaches a is one more in the quotient.
-pub fn part_sum(p: Part, q: Part, a: u64) -> Part
-    requires { ⌜ Addable a p q ⌝ }
-    ensures { λ r. ⌜ r ≡ partSum a p q ⌝ }
+// What the rising value is taken times: the parts of a column, or of all columns where it does not rise.
+fn scale(dy: i64) -> i64
+    ensures { λ r. ⌜ r ≡ scaleOf dy ⌝ }
 {
-    let quotient = p.quotient + q.quotient - RAISE;
-    let rest = p.rest + q.rest;
-    if rest < a {
-        return Part { quotient, rest };
+    if 0 < dy {
+        return SCALE;
     }
-    Part {
-        quotient: quotient + 1,
-        rest: rest - a,
+    if dy < 0 {
+        return SCALE;
     }
+    LEVEL_SCALE
+}
+
+// v by the step across, in parts of a column, rounded up and raised by r.
+pub fn in_parts(v: i64, dy: i64, r: u64) -> u64
+    requires { ⌜ (natAbs dy ≤ 16384) × (natAbs (scaleOf dy *ℤ v) ≤ 9000000000000000000) × (natAbs (scaleOf dy *ℤ v) ≤ r) × (r ≤ 9223372036854775808) ⌝ }
+    ensures { λ m. ⌜ Rounded (scaleOf dy *ℤ v) (acrossOf dy) r 1 m ⌝ }
+{
+    above(scale(dy) * v, across(dy), r)
 }

@@ -1,7 +1,8 @@
 // From vertices to sides.
 use crate::Side;
 use crate::Sides;
-use crate::parts::parted;
+use crate::parts::in_parts;
+use crate::units::LIFT;
 use rules::Triangle;
 ghost use mathlib.Core.Path.{_≡_};
 ghost use mathlib.Core.Bool.{true, _||_, _&&_};
@@ -10,10 +11,15 @@ ghost use Rattle.rules.specs.Turns.{choose};
 ghost use Prim.Native.Nat.{_≤_};
 ghost use Rattle.rules.specs.Triangles.{positive, isZero, negative, edgeValue, sample};
 ghost use Rattle.rules.specs.Numbers.{verticesInRange};
-ghost use Rattle.cover.specs.Side.{edgeFrom, edgeInRange, rising, acrossOf, downOf, SideOf, SidesOf};
+ghost use Rattle.cover.specs.Side.{edgeFrom, edgeInRange, rising, downOf, SideOf, SidesOf};
 
 // How far to the right and down in its pixel the sample point lies.
 const SAMPLE_OFFSET: i64 = 0;
+
+// The parts of a column, and of 640 columns.
+const SCALE: i64 = 67108864;
+
+const LEVEL_SCALE: i64 = 42949672960;
 
 // The edge's value at pixel (x, y).
 pub fn edge_value(x1: i32, y1: i32, x2: i32, y2: i32, x: u32, y: u32) -> i64
@@ -31,11 +37,11 @@ pub fn edge_value(x1: i32, y1: i32, x2: i32, y2: i32, x: u32, y: u32) -> i64
 fn loss(dx: i64, dy: i64) -> i64
     ensures { λ r. ⌜ r ≡ choose (negative dy || isZero dy && positive dx) (pos 0) (pos 1) ⌝ }
 {
-    if dy < 0 {
-        return 0;
-    }
     if 0 < dy {
         return 1;
+    }
+    if dy < 0 {
+        return 0;
     }
     if 0 < dx {
         return 0;
@@ -57,26 +63,15 @@ pub fn rising_value(x1: i32, y1: i32, x2: i32, y2: i32, y: u32) -> i64
     v
 }
 
-// What one column adds to 1,024 times the rising value with the column added.
-fn across(dy: i64) -> u64
-    requires { ⌜ natAbs dy ≤ 16384 ⌝ }
-    ensures { λ r. ⌜ pos r ≡ acrossOf dy ⌝ }
-{
-    if 0 < dy {
-        return (8192 * dy + 1) as u64;
-    }
-    (1 - 8192 * dy) as u64
-}
-
-// What one row adds to it.
+// What one row adds to the rising value.
 fn down(dx: i64, dy: i64) -> i64
     requires { ⌜ natAbs dx ≤ 16384 ⌝ }
     ensures { λ r. ⌜ r ≡ downOf dx dy ⌝ }
 {
     if 0 < dy {
-        return 0 - 8192 * dx;
+        return 0 - 8 * dx;
     }
-    8192 * dx
+    8 * dx
 }
 
 // The side of the edge from (x1, y1) to (x2, y2).
@@ -86,10 +81,8 @@ fn side(x1: i32, y1: i32, x2: i32, y2: i32) -> Side
 {
     let dx = x2 as i64 - x1 as i64;
     let dy = y2 as i64 - y1 as i64;
-    let step = across(dy);
     Side {
-        across: step,
-        down: parted(down(dx, dy), step),
+        down: in_parts(down(dx, dy), dy, LIFT),
         ends: 0 < dy,
     }
 }

@@ -1,7 +1,7 @@
 pub mod Affine
-pub mod Named
 pub mod Stretch
-pub mod Grouped
+pub mod Running
+pub mod Counting
 pub mod Touch
 pub mod Refused
 pub mod Rowed

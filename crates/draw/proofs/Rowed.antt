@@ -1,29 +1,24 @@
--- The loop over a row's groups: what holds before column x, that it holds at the group of the run's first column, that one group more keeps it,
--- and that the row is drawn once the run's end is reached.
-use Prim.Native.Nat.{ℕ, _+_, _-_, _%_, _≤_, _<_}
-use mathlib.Core.Path.{_≡_, refl, sym, _∙_, ap, ap₂, subst}
+-- From a row's run to the row: what is not in the run is not covered, so it is neither counted nor drawn.
+use Prim.Native.Nat.{ℕ, _+_, _-_, _≤_, _<_}
+use mathlib.Core.Path.{_≡_, _∙_, sym, ap}
 use mathlib.Core.Bool.{Bool, true, false}
 use mathlib.Core.List.{List}
 use native.Mathlib.Omega.{arith}
 use lib.ListN.{length}
-use borrow.Author.Tests.{lt-ltb}
+use borrow.Author.Tests.{lt-ltb, le-leb}
 use Rattle.rules.specs.declared.Screen.{Screen}
 use Rattle.rules.specs.declared.Triangle.{Triangle}
 use Rattle.rules.specs.Turns.{upto, howMany}
-use Rattle.rules.specs.Sizes.{width, sound}
+use Rattle.rules.specs.Sizes.{width}
 use Rattle.rules.specs.Triangles.{sample, insideAll, covered, written, pixelDrawn, rowDrawn}
 use Rattle.rules.proofs.Turns.{upto-add, upto-still, howMany-add, howMany-none, howMany-same}
-use Rattle.rules.proofs.Pixels.{Sound, On, sound-facts}
-use Rattle.rules.proofs.Drawing.{length-pixels, written-left}
-use Rattle.cover.specs.Mask.{maskOf}
+use Rattle.rules.proofs.Pixels.{On}
 use Rattle.cover.specs.Runs.{inRun}
 use Rattle.cover.proofs.Columns.{run-before, run-beyond}
-use Rattle.cover.proofs.Mask.{mask-same}
-use Rattle.draw.specs.declared.Counts.{Counts}
-use Rattle.draw.specs.Rows.{VisitAsked, VisitDone, RowAsked, RowDone}
+use Rattle.draw.specs.Leaves.{RunAsked, RunDone}
+use Rattle.draw.specs.Rows.{RowAsked, RowDone}
+use Rattle.draw.proofs.Counting.{run-many}
 use Rattle.draw.proofs.Stretch.{not-written, pixel-still}
-use Rattle.draw.proofs.Named.{mask-zero}
-use Rattle.draw.proofs.Grouped.{stretch-still, none-written}
 
 -- on the screen, covered is inside
 pub covered-is : (t : Triangle) (s : Screen) {x y : ℕ} → On s x y → covered t s x y ≡ insideAll t (sample x y)
@@ -33,111 +28,69 @@ covered-is t s p = rw (lt-ltb _ _ (p .across), lt-ltb _ _ (p .down))
 pub outside-uncovered : (t : Triangle) (s : Screen) {x y : ℕ} → On s x y → insideAll t (sample x y) ≡ false → covered t s x y ≡ false
 outside-uncovered t s p h = covered-is t s p ∙ h
 
-module _ (t : Triangle) (s : Screen) (n x y a b : ℕ) (q : VisitAsked n s t x y a b) where
-  pub mask-covered : maskOf (λ k. inRun a b (x + k)) 16 ≡ maskOf (λ k. covered t s (x + k) y) 16
-  mask-covered = mask-same (λ k. inRun a b (x + k)) (λ k. covered t s (x + k) y) 16 (λ k h. sym (q .run k h))
+run-within : (a b x : ℕ) → a ≤ x → x < b → inRun a b x ≡ true
+run-within a b x h l = rw (le-leb a x h, lt-ltb x b l)
 
-  pub visit-nothing : (m : List ℕ) → maskOf (λ k. inRun a b (x + k)) 16 ≡ 0 → VisitDone m s t x y (record { covered = 0; written = 0 }) m
-  visit-nothing m e =
-      let none : (i : ℕ) → i < 16 → covered t s (x + i) y ≡ false = mask-zero (λ k. covered t s (x + k) y) 16 (sym mask-covered ∙ e) in
-      record {
-        covers = sym (howMany-none (λ k. covered t s (x + k) y) 16 none);
-        draws = record { counts = sym (none-written s t x y m 16 none); leaves = sym (stretch-still s t x y m 16 none) };
-      }
+-- a row in three parts, of which the first and the last do nothing
+module _ (a k n : ℕ) where
+  middle-counts : (f : ℕ → Bool) → ((i : ℕ) → i < a → f i ≡ false) → ((i : ℕ) → i < n → f (a + (k + i)) ≡ false)
+      → howMany (λ i. f (a + i)) k ≡ howMany f (a + (k + n))
+  middle-counts f p q =
+      omega (
+        arith,
+        howMany-add f a (k + n),
+        howMany-none f a p,
+        howMany-add (λ i. f (a + i)) k n,
+        howMany-none (λ i. f (a + (k + i))) n q,
+      )
 
-pub record Across (m₀ : List ℕ) (s : Screen) (t : Triangle) (y : ℕ) (m : List ℕ) (x c w : ℕ) : Type 0 where
-  pub whole : x % 16 ≡ 0
-  pub on-screen : x ≤ width (s .size)
-  pub is-memory : m ≡ upto (pixelDrawn t s y) x m₀
-  pub is-covered : c ≡ howMany (λ j. covered t s j y) x
-  pub is-written : w ≡ howMany (λ j. written t s m₀ j y) x
+  middle-done : {A : Type 0} (f : ℕ → A → A) (z : A) → ((i : ℕ) → i < a → (y : A) → f i y ≡ y) → ((i : ℕ) → i < n → (y : A) → f (a + (k + i)) y ≡ y)
+      → upto (λ i. f (a + i)) k z ≡ upto f (a + (k + n)) z
+  middle-done f z p q =
+      sym (upto-add f a (k + n) z
+      ∙ ap (upto (λ i. f (a + i)) (k + n)) (upto-still f a z (λ i h. p i h z))
+      ∙ upto-add (λ i. f (a + i)) k n z
+      ∙ upto-still (λ i. f (a + (k + i))) n (upto (λ i. f (a + i)) k z) (λ i h. q i h (upto (λ i. f (a + i)) k z)))
 
 module _ (m₀ : List ℕ) (s : Screen) (t : Triangle) (y a b : ℕ) (q : RowAsked (length m₀) s t y a b) where
-  facts : Sound (length m₀) s
-  facts = sound-facts (q .is-sound)
-
-  on : (x : ℕ) → x < width (s .size) → On s x y
-  on x h = record { across = h; down = q .row }
-
-  pub across-first : Across m₀ s t y m₀ (a - a % 16) 0 0
-  across-first =
-      let x = a - a % 16 in
-      let none : (j : ℕ) → j < x → covered t s j y ≡ false =
-      λ j h. q .run j (omega (arith, q .ordered, q .limited)) ∙ run-before a b j (omega arith) in
+  pub run-asked : RunAsked (length m₀) s t y a b
+  run-asked =
       record {
-        whole = omega arith;
-        on-screen = omega (arith, q .ordered, q .limited);
-        is-memory = sym (upto-still (pixelDrawn t s y) x m₀ (λ j h. pixel-still t s y j m₀ (none j h)));
-        is-covered = sym (howMany-none (λ j. covered t s j y) x none);
-        is-written = sym (howMany-none (λ j. written t s m₀ j y) x (λ j h. not-written t s m₀ j y (none j h)));
+        is-sound = q .is-sound;
+        row = q .row;
+        ordered = q .ordered;
+        limited = q .limited;
+        all = λ x h l. q .run x (omega (arith, q .limited)) ∙ run-within a b x h l;
       }
 
-  module _ (m : List ℕ) (x c w : ℕ) (u : Across m₀ s t y m x c w) where
-    pub length-across : length m ≡ length m₀
-    length-across = ap length (u .is-memory) ∙ length-pixels t s y x m₀
+  abbrev rest : ℕ
+  rest = width (s .size) - b
 
-    -- the width is whole groups
-    group-fits : x < b → x + 16 ≤ width (s .size)
-    group-fits h = omega (arith, u .whole, q .limited)
+  whole : a + ((b - a) + rest) ≡ width (s .size)
+  whole = omega (arith, q .ordered, q .limited)
 
-    pub visit-asked : x < b → VisitAsked (length m) s t x y a b
-    visit-asked h =
-        record {
-          on =
-              record {
-                is-sound = subst (λ (n : ℕ). sound n s ≡ true) (sym length-across) (q .is-sound);
-                whole = u .whole;
-                columns = group-fits h;
-                row = q .row;
-              };
-          ordered = q .ordered;
-          run = λ k l. q .run (x + k) (omega (arith, group-fits h));
-        }
+  before : (i : ℕ) → i < a → covered t s i y ≡ false
+  before i h = q .run i (omega (arith, q .ordered, q .limited)) ∙ run-before a b i h
 
-    pub across-more : x < b → (r : Counts) (m′ : List ℕ) → VisitDone m s t x y r m′ → Across m₀ s t y m′ (x + 16) (c + r .covered) (w + r .written)
-    across-more h r m′ k =
-        record {
-          whole = omega (arith, u .whole);
-          on-screen = group-fits h;
-          is-memory =
-              k .draws .leaves
-              ∙ ap (upto (λ i. pixelDrawn t s y (x + i)) 16) (u .is-memory)
-              ∙ sym (upto-add (pixelDrawn t s y) x 16 m₀);
-          is-covered =
-              ap₂ _+_ (u .is-covered) (k .covers)
-              ∙ sym (howMany-add (λ j. covered t s j y) x 16);
-          is-written =
-              ap₂ _+_ (u .is-written)
-              (k .draws .counts
-              ∙ howMany-same (λ i. written t s m (x + i) y) (λ i. written t s m₀ (x + i) y) 16
-              (λ i l.
-              ap (λ (n : List ℕ). written t s n (x + i) y) (u .is-memory)
-              ∙ written-left facts t m₀ refl (on (x + i) (omega (arith, group-fits h))) (omega arith)))
-              ∙ sym (howMany-add (λ j. written t s m₀ j y) x 16);
-        }
+  beyond : (i : ℕ) → i < rest → covered t s (a + ((b - a) + i)) y ≡ false
+  beyond i h = q .run (a + ((b - a) + i)) (omega (arith, whole)) ∙ run-beyond a b (a + ((b - a) + i)) (omega (arith, q .ordered))
 
-    -- nothing is covered from the run's end on
-    pub across-last : b ≤ x → RowDone m₀ s t y (record { covered = c; written = w }) m
-    unfolding rowDrawn
-    across-last h =
-        let n = width (s .size) - x in
-        let e : x + n ≡ width (s .size) = omega (arith, u .on-screen) in
-        let none : (i : ℕ) → i < n → covered t s (x + i) y ≡ false = λ i l. q .run (x + i) (omega arith) ∙ run-beyond a b (x + i) (omega arith) in
-        record {
-          covers =
-              u .is-covered
-              ∙ tail (λ j. covered t s j y) x n none
-              ∙ ap (howMany (λ j. covered t s j y)) e;
-          writes =
-              u .is-written
-              ∙ tail (λ j. written t s m₀ j y) x n (λ i l. not-written t s m₀ (x + i) y (none i l))
-              ∙ ap (howMany (λ j. written t s m₀ j y)) e;
-          leaves =
-              u .is-memory
-              ∙ sym (upto-still (λ i. pixelDrawn t s y (x + i)) n (upto (pixelDrawn t s y) x m₀) (λ i l. pixel-still t s y (x + i) (upto (pixelDrawn t s y) x m₀) (none i l)))
-              ∙ sym (upto-add (pixelDrawn t s y) x n m₀)
-              ∙ ap (λ (k : ℕ). upto (pixelDrawn t s y) k m₀) e;
-        }
-      where
-        tail : (f : ℕ → Bool) (x n : ℕ) → ((i : ℕ) → i < n → f (x + i) ≡ false) → howMany f x ≡ howMany f (x + n)
-        tail f x n h = omega (arith, howMany-add f x n, howMany-none (λ i. f (x + i)) n h)
+  pub row-done : (c w : ℕ) (m : List ℕ) → c ≡ howMany (inRun a b) b → RunDone m₀ s t y a b w m
+      → RowDone m₀ s t y (record { covered = c; written = w }) m
+  unfolding rowDrawn
+  row-done c w m e d =
+      record {
+        covers =
+            e
+            ∙ run-many a b b (q .ordered) (omega arith)
+            ∙ sym (run-many a b (width (s .size)) (q .ordered) (q .limited))
+            ∙ sym (howMany-same (λ x. covered t s x y) (inRun a b) (width (s .size)) (q .run));
+        writes =
+            d .counts
+            ∙ middle-counts a (b - a) rest (λ x. written t s m₀ x y) (λ i h. not-written t s m₀ i y (before i h)) (λ i h. not-written t s m₀ _ y (beyond i h))
+            ∙ ap (howMany (λ x. written t s m₀ x y)) whole;
+        leaves =
+            d .leaves
+            ∙ middle-done a (b - a) rest (pixelDrawn t s y) m₀ (λ i h m. pixel-still t s y i m (before i h)) (λ i h m. pixel-still t s y _ m (beyond i h))
+            ∙ ap (λ (n : ℕ). upto (pixelDrawn t s y) n m₀) whole;
+      }

@@ -1,7 +1,6 @@
--- What drawing one leaf and one group of sixteen promises.
-use Prim.Native.Nat.{ℕ, _+_, _%_, _≤_, _<_}
+-- What drawing one pixel and the pixels of a run promises.
+use Prim.Native.Nat.{ℕ, _+_, _-_, _≤_, _<_}
 use mathlib.Core.Path.{_≡_}
-use mathlib.Core.Logic.{_≢_}
 use mathlib.Core.Bool.{Bool, true}
 use mathlib.Core.List.{List}
 use lib.Dec.{leb}
@@ -10,7 +9,6 @@ use Rattle.rules.specs.declared.Triangle.{Triangle}
 use Rattle.rules.specs.Turns.{upto, bit, howMany, choose}
 use Rattle.rules.specs.Sizes.{width, height, sound, half, putHalf}
 use Rattle.rules.specs.Triangles.{topHalf, packed, covered, written, pixelDrawn}
-use Rattle.cover.specs.Mask.{maskOf}
 use Rattle.draw.specs.declared.Tints.{Tints}
 
 abbrev pub passes : List ℕ → ℕ → Tints → Bool
@@ -23,18 +21,14 @@ pub record LeafDone (m : List ℕ) (colour depth : ℕ) (v : Tints) (before answ
       (putHalf (putHalf m depth (topHalf (v .depth))) colour (packed (v .red) (v .green) (v .blue)))
       m
 
--- the leaves of the group that starts at pixel (x, y), on the screen
-pub record GroupOn (n : ℕ) (s : Screen) (x y : ℕ) : Type 0 where
+-- the pixels of row y from column a up to but not including b are on the screen, and covered
+pub record RunAsked (n : ℕ) (s : Screen) (t : Triangle) (y a b : ℕ) : Type 0 where
   pub is-sound : sound n s ≡ true
-  pub whole : x % 16 ≡ 0
-  pub columns : x + 16 ≤ width (s .size)
   pub row : y < height (s .size)
+  pub ordered : a ≤ b
+  pub limited : b ≤ width (s .size)
+  pub all : (x : ℕ) → a ≤ x → x < b → covered t s x y ≡ true
 
-pub record GroupAsked (n : ℕ) (s : Screen) (t : Triangle) (x y mask : ℕ) : Type 0 where
-  pub on : GroupOn n s x y
-  pub some : mask ≢ 0
-  pub names : mask ≡ maskOf (λ k. covered t s (x + k) y) 16
-
-pub record GroupDone (m : List ℕ) (s : Screen) (t : Triangle) (x y : ℕ) (answer : ℕ) (after : List ℕ) : Type 0 where
-  pub counts : answer ≡ howMany (λ k. written t s m (x + k) y) 16
-  pub leaves : after ≡ upto (λ k. pixelDrawn t s y (x + k)) 16 m
+pub record RunDone (m : List ℕ) (s : Screen) (t : Triangle) (y a b : ℕ) (answer : ℕ) (after : List ℕ) : Type 0 where
+  pub counts : answer ≡ howMany (λ k. written t s m (a + k) y) (b - a)
+  pub leaves : after ≡ upto (λ k. pixelDrawn t s y (a + k)) (b - a) m

@@ -1,5 +1,5 @@
--- What drawing a group, a row and a frame promises, and which rows can be left out.
-use Prim.Native.Nat.{ℕ, _+_, _≤_, _<_}
+-- What drawing a row and a frame promises, and which rows can be left out.
+use Prim.Native.Nat.{ℕ, _≤_, _<_}
 use mathlib.Core.Path.{_≡_}
 use mathlib.Core.Logic.{_⊎_}
 use mathlib.Core.Bool.{true, false}
@@ -13,17 +13,6 @@ use Rattle.rules.specs.Triangles.{sample, insideAll, covered, written, rowDrawn
 use Rattle.cover.specs.declared.Span.{Span}
 use Rattle.cover.specs.Runs.{inRun}
 use Rattle.draw.specs.declared.Counts.{Counts}
-use Rattle.draw.specs.Leaves.{GroupOn, GroupDone}
-
-pub record VisitDone (m : List ℕ) (s : Screen) (t : Triangle) (x y : ℕ) (answer : Counts) (after : List ℕ) : Type 0 where
-  pub covers : answer .covered ≡ howMany (λ k. covered t s (x + k) y) 16
-  pub draws : GroupDone m s t x y (answer .written) after
-
--- the covered pixels of the group that starts at pixel (x, y) are those from column a up to but not including b
-pub record VisitAsked (n : ℕ) (s : Screen) (t : Triangle) (x y a b : ℕ) : Type 0 where
-  pub on : GroupOn n s x y
-  pub ordered : a ≤ b
-  pub run : (k : ℕ) → k < 16 → covered t s (x + k) y ≡ inRun a b (x + k)
 
 -- the covered pixels of row y are those from column a up to but not including b
 pub record RowAsked (n : ℕ) (s : Screen) (t : Triangle) (y a b : ℕ) : Type 0 where

@@ -23,7 +23,7 @@ pub fn frame(ram: &mut [u8], s: Screen, t: Triangle) -> Counts
     let rows = touched_rows(t, height(s.size));
     let end = rows.to;
     let mut y = rows.from;
-    let mut m = marks_at(t, d, y);
+    let mut m = marks_at(t, y);
     let mut covered: u32 = 0;
     let mut written: u32 = 0;
     while y < end {

@@ -1,4 +1,4 @@
-// A group's leaves, one pixel after the other.
+// The pixels of a row's run, one after the other.
 use crate::Tints;
 use crate::planes::colour_of;
 use crate::planes::tints_at;
@@ -11,11 +11,11 @@ use screen::sizes::colour_place;
 use screen::sizes::depth_place;
 ghost use Prim.Native.Nat.{_+_, _<_};
 ghost use lib.ListN.{length};
-ghost use Rattle.draw.specs.Leaves.{LeafDone, GroupAsked, GroupDone};
+ghost use Rattle.draw.specs.Leaves.{LeafDone, RunAsked, RunDone};
 
-// One covered leaf, written where its depth is at most the stored one. It answers how many were written, this one with the given number.
+// One covered pixel, written where its depth is at most the stored one. It answers how many were written, this one with the given number.
 pub fn leaf(ram: &mut [u8], colour: usize, depth: usize, v: Tints, written: u32) -> u32
-    requires { ⌜ (colour + 1 < length (now ram)) × (depth + 1 < length (now ram)) × (written < 16) ⌝ }
+    requires { ⌜ (colour + 1 < length (now ram)) × (depth + 1 < length (now ram)) × (written < 640) ⌝ }
     ensures { λ r. ⌜ LeafDone (now (ram .entry)) colour depth v written r (now (ram .exit)) ⌝ }
 {
     let z = v.depth / 65536;
@@ -28,18 +28,17 @@ pub fn leaf(ram: &mut [u8], colour: usize, depth: usize, v: Tints, written: u32)
     written + 1
 }
 
-// The leaves that the mask names: from the first one on as many as it has ones, without a gap. It answers how many were written.
-pub fn group(ram: &mut [u8], s: Screen, t: Triangle, x: u32, y: u32, mask: u16) -> u32
-    requires { ⌜ GroupAsked (length (now ram)) s t x y mask ⌝ }
-    ensures { λ r. ⌜ GroupDone (now (ram .entry)) s t x y r (now (ram .exit)) ⌝ }
+// The pixels of row y from column `from` up to but not including `to`. It answers how many were written.
+pub fn run(ram: &mut [u8], s: Screen, t: Triangle, y: u32, from: u32, to: u32) -> u32
+    requires { ⌜ RunAsked (length (now ram)) s t y from to ⌝ }
+    ensures { λ r. ⌜ RunDone (now (ram .entry)) s t y from to r (now (ram .exit)) ⌝ }
 {
-    let first = u16::leading_zeros(mask);
-    let count = u16::count_ones(mask);
-    let colour = colour_place(s, x + first, y);
-    let depth = depth_place(s, x + first, y);
-    let mut v = tints_at(t, x + first, y);
+    let colour = colour_place(s, from, y);
+    let depth = depth_place(s, from, y);
+    let mut v = tints_at(t, from, y);
     let mut written: u32 = 0;
     let mut i: u32 = 0;
+    let count = to - from;
     while i < count {
         let past = 2 * i as usize;
         written = leaf(ram, colour + past, depth + past, v, written);

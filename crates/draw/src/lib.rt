@@ -1,4 +1,4 @@
-// Drawing a triangle on a screen in lent memory: pixel, group of sixteen, row, frame, call.
+// Drawing a triangle on a screen in lent memory: pixel, run, row, frame, call.
 pub mod frames;
 pub mod leaves;
 pub mod planes;

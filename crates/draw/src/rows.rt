@@ -1,43 +1,50 @@
-// A row, group by group.
+// A row: its run of covered pixels, counted by its groups' masks, and drawn.
 use crate::Counts;
-use crate::leaves::group;
-use cover::runs::run_mask;
+use crate::leaves::run;
+use cover::masks::leaves_mask;
 use rules::Screen;
 use rules::Triangle;
+ghost use mathlib.Core.Path.{_≡_};
+ghost use mathlib.Core.Logic.{_⊎_};
+ghost use Prim.Native.Nat.{_≤_};
 ghost use lib.ListN.{length};
-ghost use Rattle.draw.specs.Rows.{VisitAsked, VisitDone, RowAsked, RowDone};
+ghost use Rattle.rules.specs.Turns.{howMany};
+ghost use Rattle.cover.specs.Runs.{inRun};
+ghost use Rattle.draw.specs.Rows.{RowAsked, RowDone};
 
-// One group: nothing where the run has no column in it.
-fn visit(ram: &mut [u8], s: Screen, t: Triangle, x: u32, y: u32, from: u32, to: u32) -> Counts
-    requires { ⌜ VisitAsked (length (now ram)) s t x y from to ⌝ }
-    ensures { λ r. ⌜ VisitDone (now (ram .entry)) s t x y r (now (ram .exit)) ⌝ }
+// The lesser of two numbers.
+fn lesser(a: u32, b: u32) -> u32
+    ensures { λ r. ⌜ (r ≤ a) × (r ≤ b) × ((r ≡ a) ⊎ (r ≡ b)) ⌝ }
 {
-    let mask = run_mask(x, from, to);
-    if mask == 0 {
-        return Counts {
-            covered: 0,
-            written: 0,
-        };
+    if a < b {
+        return a;
     }
-    let written = group(ram, s, t, x, y, mask);
-    let covered = u16::count_ones(mask);
-    Counts { covered, written }
+    b
 }
 
-// Row y, whose covered pixels are those from column `from` up to but not including `to`, group by group.
+// How many columns there are from `from` up to but not including `to`: each group's mask has a one for each of its own, and the ones are added.
+fn counted(from: u32, to: u32) -> u32
+    requires { ⌜ (from ≤ to) × (to ≤ 640) ⌝ }
+    ensures { λ r. ⌜ r ≡ howMany (inRun from to) to ⌝ }
+{
+    let mut a = from;
+    let mut covered: u32 = 0;
+    while a < to {
+        let first = a % 16;
+        let past = lesser(16, first + (to - a));
+        let mask = leaves_mask(first, past);
+        covered += u16::count_ones(mask);
+        a = a - first + 16;
+    }
+    covered
+}
+
+// Row y, whose covered pixels are those from column `from` up to but not including `to`.
 pub fn row(ram: &mut [u8], s: Screen, t: Triangle, y: u32, from: u32, to: u32) -> Counts
     requires { ⌜ RowAsked (length (now ram)) s t y from to ⌝ }
     ensures { λ r. ⌜ RowDone (now (ram .entry)) s t y r (now (ram .exit)) ⌝ }
 {
-    // the group that has the first covered pixel
-    let mut x = from - from % 16;
-    let mut covered: u32 = 0;
-    let mut written: u32 = 0;
-    while x < to {
-        let c = visit(ram, s, t, x, y, from, to);
-        covered += c.covered;
-        written += c.written;
-        x += 16;
-    }
+    let covered = counted(from, to);
+    let written = run(ram, s, t, y, from, to);
     Counts { covered, written }
 }

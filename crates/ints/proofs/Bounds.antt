@@ -46,12 +46,12 @@ within-range {n} {a} {b} {z} ha hb l h = within-of z (≤ℤ-trans (within-lo ha
 pub within-lit : {n : ℕ} {z : ℤ} → T (leb (natAbs z) n) → Within n z
 within-lit {n} {z} t = record { within = leb→le (natAbs z) n t }
 
-abs-neg : (z : ℤ) → natAbs (negℤ z) ≡ natAbs z
+pub abs-neg : (z : ℤ) → natAbs (negℤ z) ≡ natAbs z
 abs-neg (pos zero) = refl
 abs-neg (pos (suc n)) = refl
 abs-neg (negsuc n) = refl
 
-abs-mul : (z y : ℤ) → natAbs (z *ℤ y) ≡ natAbs z * natAbs y
+pub abs-mul : (z y : ℤ) → natAbs (z *ℤ y) ≡ natAbs z * natAbs y
 abs-mul (pos a) (pos b) = refl
 abs-mul (pos a) (negsuc b) = abs-neg (pos (a * suc b))
 abs-mul (negsuc a) (pos b) = abs-neg (pos (suc a * b))

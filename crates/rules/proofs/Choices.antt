@@ -1,8 +1,8 @@
 -- Laws of single tests and of what a number decides.
 use Prim.Native.Nat.{ℕ, _≤_}
-use mathlib.Core.Path.{_≡_, refl, sym, _∙_, ap}
+use mathlib.Core.Path.{_≡_, refl, sym}
 use mathlib.Core.Logic.{_≢_}
-use mathlib.Core.Bool.{Bool, true, false, not, Bool·not-not}
+use mathlib.Core.Bool.{Bool, true, false, not}
 use native.Mathlib.Omega.{arith}
 use lib.Dec.{leb, ltb}
 use borrow.Author.Tests.{leb-true, leb-false, lt-ltb, le-ltb, eq-eqb, ne-eqb}
@@ -19,9 +19,6 @@ not-leb a b = go (leb a b) refl
     go : (t : Bool) → leb a b ≡ t → not t ≡ ltb b a
     go true h = sym (le-ltb b a (leb-true a b h))
     go false h = sym (lt-ltb b a (leb-false a b h))
-
-pub leb-not : (a b : ℕ) → leb a b ≡ not (ltb b a)
-leb-not a b = sym (Bool·not-not (leb a b)) ∙ ap not (not-leb a b)
 
 pub accepted-no : {A : Type 0} (n : ℕ) (done kept : A) → n ≢ 0 → accepted n done kept ≡ kept
 accepted-no n done kept h = rw (ne-eqb n 0 h)

@@ -1,12 +1,10 @@
 -- Laws of doing in turn and counting: one more turn, two stretches joined, turns that change nothing, turns that agree.
 use Prim.Native.Nat.{ℕ, zero, suc, _+_, _-_, _*_, _≤_, _<_}
 use mathlib.Core.Path.{_≡_, refl, _∙_, ap}
-use mathlib.Core.Bool.{Bool, true, false}
+use mathlib.Core.Bool.{Bool, false}
 use native.Mathlib.Numerals.{add-one}
 use native.Mathlib.Nat.{add-suc, add-zero, le-refl, mul-suc}
 use native.Mathlib.Omega.{arith}
-use lib.Dec.{leb}
-use borrow.Author.Tests.{leb-true, leb-false}
 use Rattle.rules.specs.Turns.{upto, bit, howMany, pixels}
 use Rattle.rules.proofs.Choices.{bit-le}
 
@@ -68,34 +66,6 @@ module _ (t : ℕ → Bool) where
   unfolding howMany
   howMany-le zero = omega arith
   howMany-le (suc n) = let h : howMany t n ≤ n = howMany-le n in omega (arith, bit-le (t n))
-
-  pub howMany-mono : (m n : ℕ) → m ≤ n → howMany t m ≤ howMany t n
-  howMany-mono m n l =
-      let e : m + (n - m) ≡ n = omega arith in
-      omega (arith, howMany-add m (n - m), ap (howMany t) e)
-
-  -- where the count still grows, something to come passes
-  pub howMany-some : (a b : ℕ) → howMany t a < howMany t b → (j : ℕ) × (a ≤ j) × (j < b) × (t j ≡ true)
-  unfolding howMany
-  howMany-some a zero l = absurd (omega arith)
-  howMany-some a (suc b) l = go (t b) refl (leb a b) refl (λ h. howMany-some a b h)
-    where
-      go : (p : Bool) → t b ≡ p → (q : Bool) → leb a b ≡ q
-          → (howMany t a < howMany t b → (j : ℕ) × (a ≤ j) × (j < b) × (t j ≡ true))
-          → (j : ℕ) × (a ≤ j) × (j < suc b) × (t j ≡ true)
-      go true e true f r = (b, leb-true a b f, le-refl (suc b), e)
-      go true e false f r = absurd (omega (arith, howMany-mono (suc b) a (leb-false a b f)))
-      go false e q f r =
-          let (j, h, k, p) = r (omega (arith, ap bit e)) in
-          (j, h, up k, p)
-
-  -- where it grows no more, nothing does
-  pub howMany-rest : (a b : ℕ) → howMany t a ≡ howMany t b → (i : ℕ) → a ≤ i → i < b → t i ≡ false
-  howMany-rest a b e i h k = go (t i) refl
-    where
-      go : (p : Bool) → t i ≡ p → p ≡ false
-      go true f = absurd (omega (arith, howMany-more i, ap bit f, howMany-mono a i h, howMany-mono (i + 1) b (omega arith)))
-      go false f = refl
 
 module _ (t : ℕ → ℕ → Bool) (w : ℕ) where
   pub pixels-more : (h : ℕ) → pixels t w (h + 1) ≡ pixels t w h + howMany (λ x. t x h) w

@@ -1,52 +1,73 @@
--- 1,024 times the rising value is within what can be parted.
-use mathlib.Core.Path.{_≡_, sym, _∙_, ap, subst}
+-- The rising value, scaled, is within 64 bits, and its quotient has one rounding.
+use Prim.Native.Nat.{_+_}
+use mathlib.Core.Path.{_≡_, sym, _∙_, ap, ap₂, subst, subst₂}
 use native.Mathlib.Omega.{arith}
-use lib.IntN.{ℤ, pos, _*ℤ_}
+use lib.IntN.{ℤ, natAbs, _*ℤ_}
 use mir.Syntax.{w64}
-use Rattle.ints.proofs.Bounds.{Within}
-use Rattle.ints.proofs.Machine.{got-in, got-lit, Code, known, _⊠_, need, reads-as, size-of}
+use mir.Val.{toZ, ofZ}
+use mir.ValLaws.{toZ-ofZ}
+use Rattle.ints.proofs.Bounds.{Within, fits-64}
+use Rattle.ints.proofs.Machine.{Code, word-of, need, reads-as, size-of}
 use Rattle.rules.specs.Triangles.{Edge, dy}
-use Rattle.cover.specs.Side.{edgeFrom, rising}
-use Rattle.cover.specs.Parts.{Parted}
-use Rattle.cover.proofs.Along.{edge-within, read-edge, read-in-range}
-use Rattle.cover.proofs.Turning.{rising-within, across-least}
+use Rattle.cover.specs.Units.{raise, Rounded}
+use Rattle.cover.specs.Side.{edgeFrom, rising, acrossOf, scaleOf}
+use Rattle.cover.proofs.Along.{EdgeWithin, edge-within, read-edge, read-in-range}
+use Rattle.cover.proofs.Codes as code
+use Rattle.cover.proofs.Quotients.{rounded-more}
+use Rattle.cover.proofs.Turning.{rising-within, scaled-within}
 use Rattle.cover.proofs.marking.mark.Statement.{statement}
 use Rattle.cover.proofs.marking.mark.Tie as tie
 
 abbrev edge : tie.Start → Edge
 edge c = edgeFrom (c .args .x1) (c .args .y1) (c .args .x2) (c .args .y2)
 
+in-range : (c : tie.Start) → EdgeWithin (edge c)
+in-range c = edge-within (edge c) (c .pre .0)
+
+abbrev dyC : tie.Start → Code w64
+dyC c = code.dyC (edge c) (in-range c)
+
+cast-dy : tie.Need-cast-dy
+cast-dy c = need (code.y2C (edge c) (in-range c)) tt
+
+cast-dy-2 : tie.Need-cast-dy-2
+cast-dy-2 c = need (code.y1C (edge c) (in-range c)) tt
+
+sub-dy : tie.Need-sub-dy
+sub-dy c = need (dyC c) tt
+
 rising-value-requires : tie.Need-rising-value-requires
 rising-value-requires c κs = (read-in-range (edge c) (c .pre .0), c .pre .1)
 
 is-rising : (c : tie.After-rising-value) → c .rising-value .result ≡ rising (edge (c .before)) 0 (c .before .args .y)
 is-rising c =
-    c .rising-value .ensures
-    ∙ ap (λ (e : Edge). rising e 0 (c .before .args .y)) (read-edge (edge (c .before)) (c .before .pre .0))
-
-abbrev times : tie.After-rising-value → Code w64
-times c =
     let s = c .before in
-    known (got-lit w64 1024 tt)
-    ⊠ known
-    (got-in {b = 419659778}
-    (subst (Within 419659778) (sym (is-rising c)) (rising-within (edge s) (edge-within (edge s) (s .pre .0)) (s .args .y) (s .pre .1))) tt)
+    c .rising-value .ensures ∙ ap (λ (e : Edge). rising e 0 (s .args .y)) (read-edge (edge s) (s .pre .0))
 
-mul-parted : tie.Need-mul-parted
-mul-parted c = need (times c) tt
+-- as `in_parts` reads both
+is-scaled : (c : tie.After-rising-value) →
+    let s = c .before in
+    scaleOf (toZ w64 (word-of (dyC s))) *ℤ toZ w64 (ofZ w64 (c .rising-value .result)) ≡ scaleOf (dy (edge s)) *ℤ rising (edge s) 0 (s .args .y)
+is-scaled c =
+    let s = c .before in
+    let w = rising-within (edge s) (in-range s) (s .args .y) (s .pre .1) in
+    ap₂ (λ (d v : ℤ). scaleOf d *ℤ v) (reads-as (dyC s) tt)
+    (toZ-ofZ w64 (c .rising-value .result) (fits-64 (subst (Within 419659778) (sym (is-rising c)) w) (omega arith)) ∙ is-rising c)
 
-parted-requires : tie.Need-parted-requires
-parted-requires c κs = (
-  omega (arith, size-of (times c) tt),
-  across-least (dy (edge (c .before))) (c .before .pre .2),
-)
+in-parts-requires : tie.Need-in-parts-requires
+in-parts-requires c κs =
+    let s = c .before in
+    let n = ap natAbs (is-scaled c) in
+    let w = scaled-within (edge s) (in-range s) (s .args .y) (s .pre .1) in
+    (size-of (dyC s) tt, omega (arith, n, w .within), omega (arith, n, w .within), omega arith)
 
 returns : tie.Need-returns
 returns c =
-    let n = c .before in
-    subst (λ (z : ℤ). Parted z (n .before .args .across) (c .parted .result))
-    (reads-as (times n) tt ∙ ap (λ (z : ℤ). pos 1024 *ℤ z) (is-rising n))
-    (c .parted .ensures)
+    let s = c .before .before in
+    rounded-more
+    (subst₂ (λ z a. Rounded z a raise 1 (c .in-parts .result)) (is-scaled (c .before)) (ap acrossOf (reads-as (dyC s) tt)) (c .in-parts .ensures))
+    (s .args .y + 1) (omega arith)
 
 pub mark-spec : {M : Type 1} → statement M
-mark-spec = tie.close (tie.spec rising-value-requires mul-parted parted-requires returns)
+mark-spec =
+    tie.close (tie.spec cast-dy cast-dy-2 sub-dy rising-value-requires in-parts-requires returns)

@@ -1,12 +1,12 @@
 -- The test of dy says which sign dx's product takes.
 use mir.Syntax.{w64}
-use Rattle.ints.proofs.Machine.{got-arg, got-lit, Code, known, _⊟_, _⊠_, need, reads-as}
-use Rattle.cover.proofs.Codes.{zeroC, read-above}
+use Rattle.ints.proofs.Machine.{got-arg, Code, known, _⊟_, _⊠_, need, reads-as}
+use Rattle.cover.proofs.Codes.{zeroC, eightC, read-above}
 use Rattle.cover.proofs.setup.down.Statement.{statement}
 use Rattle.cover.proofs.setup.down.Tie as tie
 
 abbrev times : tie.Start → Code w64
-times c = known (got-lit w64 8192 tt) ⊠ known (got-arg (c .fits .dx) (record { within = c .pre }))
+times c = eightC ⊠ known (got-arg (c .fits .dx) (record { within = c .pre }))
 
 mul-result : tie.Need-mul-result
 mul-result c = need (times (c .before)) tt

@@ -1,17 +1,19 @@
--- The differences are within their range, so both steps are, and each part is what its function promises.
-use mathlib.Core.Path.{_≡_, refl, sym, _∙_, ap, ap₂, subst}
+-- The differences are within their range, so what a row adds, scaled, is within 64 bits, and its quotient has one rounding.
+use mathlib.Core.Path.{_≡_, refl, sym, _∙_, ap, ap₂, subst, subst₂}
 use native.Mathlib.Omega.{arith}
-use lib.IntN.{ℤ, pos}
+use lib.IntN.{ℤ, natAbs, _*ℤ_}
 use mir.Syntax.{w64}
-use Rattle.ints.proofs.Bounds.{Within}
-use Rattle.ints.proofs.Machine.{got-in, Code, known, need, got-of, reads-as, size-of}
+use mir.Val.{toZ, ofZ}
+use mir.ValLaws.{toZ-ofZ}
+use Rattle.ints.proofs.Bounds.{Within, within-sub, fits-64}
+use Rattle.ints.proofs.Machine.{Code, word-of, need, reads-as, size-of}
 use Rattle.rules.specs.Triangles.{Edge, dx, dy}
-use Rattle.cover.specs.Side.{edgeFrom, acrossOf, downOf}
-use Rattle.cover.specs.Parts.{Parted}
+use Rattle.cover.specs.Units.{lift, Rounded}
+use Rattle.cover.specs.Side.{edgeFrom, acrossOf, scaleOf, downOf}
 use Rattle.cover.proofs.Along.{EdgeWithin, edge-within}
 use Rattle.cover.proofs.Codes as code
 use Rattle.cover.proofs.Codes.{code-above}
-use Rattle.cover.proofs.Turning.{down-within, across-least}
+use Rattle.cover.proofs.Turning.{down-within, down-scaled-within}
 use Rattle.cover.proofs.setup.side.Statement.{statement}
 use Rattle.cover.proofs.setup.side.Tie as tie
 
@@ -45,39 +47,37 @@ cast-dy-2 c = need (code.y1C (edge c) (in-range c)) tt
 sub-dy : tie.Need-sub-dy
 sub-dy c = need (dyC c) tt
 
-across-requires : tie.Need-across-requires
-across-requires c κs = size-of (dyC c) tt
-
 down-requires : tie.Need-down-requires
-down-requires c κs = size-of (dxC (c .before)) tt
+down-requires c κs = size-of (dxC c) tt
 
-is-across : (c : tie.After-across) → pos (c .across .result) ≡ acrossOf (dy (edge (c .before)))
-is-across c = c .across .ensures ∙ ap acrossOf (reads-as (dyC (c .before)) tt)
+is-down : (c : tie.After-down) → c .down .result ≡ downOf (dx (edge (c .before))) (dy (edge (c .before)))
+is-down c = c .down .ensures ∙ ap₂ downOf (reads-as (dxC (c .before)) tt) (reads-as (dyC (c .before)) tt)
 
-is-down : (c : tie.After-down) → c .down .result ≡ downOf (dx (edge (c .before .before))) (dy (edge (c .before .before)))
-is-down c = c .down .ensures ∙ ap₂ downOf (reads-as (dxC (c .before .before)) tt) (reads-as (dyC (c .before .before)) tt)
+small : (c : tie.Start) → Within 16384 (dx (edge c))
+small c = let w = in-range c in within-sub (w .in-x2) (w .in-x1)
 
-abbrev downC : tie.After-down → Code w64
-downC c =
-    let e = edge (c .before .before) in
-    known
-    (got-in {b = 134217728}
-    (subst (Within 134217728) (sym (is-down c)) (down-within (dx e) (dy e) (got-of (dxC (c .before .before)) tt .bound))) tt)
+-- as `in_parts` reads both
+is-scaled : (c : tie.After-down) →
+    let e = edge (c .before) in
+    scaleOf (toZ w64 (word-of (dyC (c .before)))) *ℤ toZ w64 (ofZ w64 (c .down .result)) ≡ scaleOf (dy e) *ℤ downOf (dx e) (dy e)
+is-scaled c =
+    let e = edge (c .before) in
+    let w = down-within (dx e) (dy e) (small (c .before)) in
+    ap₂ (λ (d v : ℤ). scaleOf d *ℤ v) (reads-as (dyC (c .before)) tt)
+    (toZ-ofZ w64 (c .down .result) (fits-64 (subst (Within 131072) (sym (is-down c)) w) (omega arith)) ∙ is-down c)
 
-parted-requires : tie.Need-parted-requires
-parted-requires c κs = (
-  omega (arith, size-of (downC c) tt),
-  across-least (dy (edge (c .before .before))) (is-across (c .before)),
-)
+in-parts-requires : tie.Need-in-parts-requires
+in-parts-requires c κs =
+    let e = edge (c .before) in
+    let n = ap natAbs (is-scaled c) in
+    let w = down-scaled-within (dx e) (dy e) (small (c .before)) in
+    (size-of (dyC (c .before)) tt, omega (arith, n, w .within), omega (arith, n, w .within), omega arith)
 
 returns : tie.Need-returns
 returns c =
-    let n = c .before in
-    let s = n .before .before in
+    let s = c .before .before in
     record {
-      is-across = is-across (n .before);
-      is-down =
-          subst (λ (z : ℤ). Parted z (n .before .across .result) (c .parted .result)) (reads-as (downC n) tt ∙ is-down n) (c .parted .ensures);
+      is-down = subst₂ (λ z a. Rounded z a lift 1 (c .in-parts .result)) (is-scaled (c .before)) (ap acrossOf (reads-as (dyC s) tt)) (c .in-parts .ensures);
       is-ends = sym (code-above (dyC s) tt refl);
     }
 
@@ -91,7 +91,6 @@ side-spec =
     cast-dy
     cast-dy-2
     sub-dy
-    across-requires
     down-requires
-    parted-requires
+    in-parts-requires
     returns)

@@ -18,7 +18,7 @@ use Rattle.draw.proofs.frames.frame.Tie as tie
 
 abbrev Inv-loop : tie.InvT-loop
 Inv-loop ram₀ s t d w end y₀ m₀ covered₀ written₀ ram y m covered written =
-    Down ram₀ s t ram y covered written × (y ≤ end) × MarksOf t y d m
+    Down ram₀ s t ram y covered written × (y ≤ end) × MarksOf t y m
 
 abbrev μ-loop : tie.MeasureT-loop
 μ-loop ram₀ s t d w end y₀ m₀ covered₀ written₀ ram y m covered written = end - y
@@ -44,7 +44,6 @@ marks-at-requires c κs =
     let q = c .before .before .before .before .before in
     let r = c .touched-rows .ensures in (
       q .pre .in-range,
-      c .before .before .before .sides .ensures,
       omega (arith, r .ordered, r .limited, c .before .height .ensures, height-le (sound-facts (q .pre .is-sound))),
     )
 
@@ -72,10 +71,11 @@ row-requires c κs =
     let a = q .args in
     let l = c .before .before .before .loop in
     let w = c .before .before .before .before .before .before .before .width in
+    let row = on-screen (c .before .before) in
     let r : RunOf (a .t) (l .y) (width (a .s .size)) (c .before .run-of .result) =
     subst (λ (n : ℕ). RunOf (a .t) (l .y) n (c .before .run-of .result)) (w .ensures)
-    (c .before .run-of .ensures (a .t) (l .y) (c .before .before .before .before .before .before .before .before .sides .ensures) (l .inv .2)) in
-    let row = on-screen (c .before .before) in
+    (c .before .run-of .ensures (a .t) (l .y) (q .pre .in-range) (omega (arith, row, height-le (sound-facts (q .pre .is-sound))))
+    (c .before .before .before .before .before .before .before .before .sides .ensures) (l .inv .2)) in
     record {
       is-sound =
           subst (λ (n : ℕ). sound n (a .s) ≡ true)
