@@ -45,6 +45,9 @@ const struct named workloads[] = {
     {"full", "full-screen triangles"},
     {"slivers", "slivers 600 long, 1 high"},
     {"small_any", "50-pixel triangles, any shape"},
+    {"small_box20", "50-pixel triangles, box at most 20 times"},
+    {"small_box14", "50-pixel triangles, box at most 14 times"},
+    {"small_box8", "50-pixel triangles, box at most 8 times"},
     {"small_stout", "50-pixel triangles, not thin"},
     {"middle_stout", "1,000-pixel triangles, not thin"},
     {"clear", "clear"},
@@ -161,6 +164,7 @@ static struct outcome {
 
 void prepare(const char *name)
 {
+    unsigned most;
     set_screen(WIDTH, HEIGHT);
     if (!strcmp(name, "small")) {
         for (int k = 0; k < 2000; k++)
@@ -168,6 +172,9 @@ void prepare(const char *name)
     } else if (!strcmp(name, "small_any")) {
         for (int k = 0; k < 2000; k++)
             add_of_shape(50, 0);
+    } else if (sscanf(name, "small_box%u", &most) == 1) {
+        for (int k = 0; k < 2000; k++)
+            add_of_shape(50, most);
     } else if (!strcmp(name, "middle")) {
         for (int k = 0; k < 200; k++)
             add_of_shape(1000, 0);

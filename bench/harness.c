@@ -74,6 +74,9 @@ int main(int argc, char **argv)
     }
     if (argc < 3)
         return 2;
+    const char *given = getenv("BENCH_SEED");
+    if (given)
+        seed = strtoull(given, NULL, 10);
     prepare(argv[2]);
     if (!strcmp(argv[1], "check") && argc == 3) {
         for (int k = 0; k < subject_count; k++)

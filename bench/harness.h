@@ -9,7 +9,8 @@
  *                                      collects inside measured() alone
  *     PROGRAM time WORKLOAD REPEATS    nanoseconds per pass for each subject,
  *                                      one line per subject, subjects in turn
- */
+ *
+ * The random numbers start from BENCH_SEED in the environment, or from 1. */
 #ifndef HARNESS_H
 #define HARNESS_H
 

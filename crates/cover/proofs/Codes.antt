@@ -1,19 +1,19 @@
 -- An edge's differences and its value as the machine computes them, in 64 bits, from vertices in range.
-use Prim.Native.Nat.{ℕ, _≤_}
-use mathlib.Core.Path.{_≡_, sym, _∙_, ap, subst}
-use mathlib.Core.Bool.{Bool, true}
+use Prim.Native.Nat.{ℕ, _≤_, _<_}
+use mathlib.Core.Path.{_≡_, sym, _∙_, ap, ap₂, subst}
+use mathlib.Core.Bool.{Bool, true, false}
 use native.Mathlib.Omega.{arith}
 use lib.Dec.{T}
-use lib.IntN.{ℤ, pos}
+use lib.IntN.{ℤ, pos, _*ℤ_}
 use lib.Signed.{ltZ}
 use mir.Syntax.{w32, w64}
 use mir.Val.{SFits, toZ, ofZ}
 use mir.ValLaws.{toZ-ofZ}
-use Rattle.ints.proofs.Bounds.{Within}
+use Rattle.ints.proofs.Bounds.{Within, fits-64}
 use Rattle.ints.proofs.Machine.{got-in, got-lit, Code, known, cast, _⊟_, _⊠_, word-of, meant, fine, reads-as}
-use Rattle.rules.specs.Triangles.{Point, Edge, sampleOffset, sample, edgeValue, positive, negative}
-use Rattle.cover.specs.Side.{edgeInRange}
-use Rattle.cover.proofs.Along.{EdgeWithin, value-within, read, read-edge, above, below}
+use Rattle.rules.specs.Triangles.{Point, Edge, sampleOffset, sample, edgeValue, positive, isZero, negative}
+use Rattle.cover.specs.Side.{edgeInRange, scaleOf}
+use Rattle.cover.proofs.Along.{EdgeWithin, value-within, read, read-edge, above, below, positive-only, negative-only, neither}
 
 abbrev pub zeroC : Code w64
 zeroC = known (got-lit w64 0 tt)
@@ -72,6 +72,22 @@ read-above z f h = sym (above z) ∙ ap (ltZ (pos 0)) (sym (toZ-ofZ w64 z f)) �
 
 pub read-below : (z : ℤ) {b : Bool} → SFits w64 z → ltZ (toZ w64 (ofZ w64 z)) (pos 0) ≡ b → negative z ≡ b
 read-below z f h = sym (below z) ∙ ap (λ (k : ℤ). ltZ k (pos 0)) (sym (toZ-ofZ w64 z f)) ∙ h
+
+-- which of them say whether it is zero
+pub above-zero : (z : ℤ) → SFits w64 z → ltZ (pos 0) (toZ w64 (ofZ w64 z)) ≡ true → isZero z ≡ false
+above-zero z f h = positive-only z (read-above z f h) .1
+
+pub below-zero : (z : ℤ) → SFits w64 z → ltZ (toZ w64 (ofZ w64 z)) (pos 0) ≡ true → isZero z ≡ false
+below-zero z f h = negative-only z (read-below z f h) .1
+
+pub neither-zero : (z : ℤ) → SFits w64 z → ltZ (pos 0) (toZ w64 (ofZ w64 z)) ≡ false → ltZ (toZ w64 (ofZ w64 z)) (pos 0) ≡ false → isZero z ≡ true
+neither-zero z f h k = neither z (read-above z f h) (read-below z f k)
+
+-- what `in_parts` makes of a number and of dy, as it reads both
+pub scaled-read : (d : Code w64) (t : T (fine d)) {v w : ℤ} {n : ℕ} → v ≡ w → Within n w → n < 9223372036854775808
+    → scaleOf (toZ w64 (word-of d)) *ℤ toZ w64 (ofZ w64 v) ≡ scaleOf (meant d) *ℤ w
+scaled-read d t {v} {n = n} e h l =
+    ap₂ (λ (y z : ℤ). scaleOf y *ℤ z) (reads-as d t) (toZ-ofZ w64 v (fits-64 (subst (Within n) (sym e) h) l) ∙ e)
 
 -- a test of a computed number against 0
 pub code-above : (k : Code w64) (t : T (fine k)) {b : Bool} → ltZ (pos 0) (toZ w64 (word-of k)) ≡ b → positive (meant k) ≡ b

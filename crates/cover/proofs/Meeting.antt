@@ -1,20 +1,20 @@
 -- The three edges' insides meet in one run: it begins at the last mark where an inside begins and ends at the first one where an inside ends.
 use Prim.Native.Nat.{ℕ, _+_, _*_, _-_, _≤_, _<_}
 use mathlib.Core.Path.{_≡_, refl, sym, _∙_, ap, ap₂}
-use mathlib.Core.Bool.{Bool, true, false, not, _&&_, _||_}
+use mathlib.Core.Bool.{Bool, true, false, not, _&&_, _||_, and-comm}
 use native.Mathlib.Omega.{arith}
 use lib.Dec.{leb, ltb}
 use borrow.Author.Tests.{lt-ltb, le-ltb, ltb-true, ltb-false, leb-true, leb-false, le-leb, lt-leb}
 use Rattle.rules.specs.declared.Triangle.{Triangle}
 use Rattle.rules.specs.Turns.{choose}
 use Rattle.rules.specs.Triangles.{Edge, edge1, edge2, edge3, sample, inside, insideAll}
+use Rattle.rules.specs.Numbers.{verticesInRange}
 use Rattle.cover.specs.declared.Side.{Side}
 use Rattle.cover.specs.declared.Sides.{Sides}
 use Rattle.cover.specs.declared.Marks.{Marks}
 use Rattle.cover.specs.Units.{unit, raise}
 use Rattle.cover.specs.Side.{SideOf, SidesOf, MarkOf, MarksOf}
 use Rattle.cover.specs.Runs.{begun, ended, columnOf, RunOf}
-use Rattle.rules.specs.Numbers.{verticesInRange}
 use Rattle.cover.proofs.Along.{EdgeWithin, edge-within, edges-in-range}
 use Rattle.cover.proofs.Turning.{mark-inside}
 use Rattle.cover.proofs.Columns.{run-beyond}
@@ -34,12 +34,6 @@ greater r a b h = go (ltb a r) refl
     go : (u : Bool) → ltb a r ≡ u → u ≡ u && ltb b r
     go true e = sym (lt-ltb b r (omega (arith, ltb-true a r e)))
     go false e = refl
-
-and-comm : (a b : Bool) → a && b ≡ b && a
-and-comm true true = refl
-and-comm true false = refl
-and-comm false true = refl
-and-comm false false = refl
 
 module _ (x m : ℕ) where
   begun-at : (e : Bool) (l : ℕ) → leb raise (x + begun m e l) ≡ (e || leb raise (x + m)) && leb raise (x + l)

@@ -1,5 +1,5 @@
--- Laws of quotients rounded up: division gives one of either sign, two add up with their roundings, one that is over by less than a unit says where
--- a multiple of the unit turns, and each is near what it is raised by.
+-- Laws of quotients rounded up: division gives one of either sign, two add up with their roundings, one whose roundings times the divisor are less than
+-- a unit says where a multiple of the unit turns, and each is near what it is raised by.
 use Prim.Native.Nat.{ℕ, _+_, _*_, _-_, _/_, _%_, _≤_, _<_}
 use mathlib.Core.Path.{_≡_, refl, sym, _∙_, ap, subst}
 use mathlib.Core.List.{[], _∷_}
@@ -54,7 +54,7 @@ module _ {z : ℤ} {a r k m : ℕ} (h : Rounded z a r k m) where
   pub rounded-more : (j : ℕ) → k ≤ j → Rounded z a r j m
   rounded-more j l = record { over = h .over; few = omega (arith, h .few, mul-le-mul-left a l); whole = h .whole }
 
-  -- where z is u units and the roundings are less than one: u turns where the column's parts and the quotient reach what it is raised by
+  -- where z is u units and the roundings times a are less than one: u turns where the column's parts and the quotient reach what it is raised by
   pub rounded-turns : (u : ℤ) → z ≡ pos unit *ℤ u → a * k < unit → 1 ≤ a → (x : ℕ)
       → nonNeg (u +ℤ pos (a * x)) ≡ leb r (unit * x + m)
   rounded-turns u e less some x = go (nonNeg (u +ℤ pos (a * x))) refl

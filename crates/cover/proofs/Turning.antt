@@ -1,5 +1,5 @@
 -- In a row an edge turns at one column: `times` its rising value, and what columns add, keeps its sign, and the mark says from which column on it is
--- not negative, since the roundings of all rows are less than a unit. A row down adds the same number everywhere. Said once over the edge.
+-- not negative, since the roundings of all rows, times the step across, are less than a unit. A row down adds the same number everywhere. Said once over the edge.
 use Prim.Native.Nat.{ℕ, zero, suc, _+_, _*_, _-_, _≤_, _<_}
 use mathlib.Core.Path.{_≡_, refl, sym, _∙_, ap, subst}
 use mathlib.Core.List.{List, [], _∷_}
@@ -117,7 +117,7 @@ across-most (negsuc n) w = omega (arith, w .within)
 -- the mark
 
 module _ (e : Edge) (w : EdgeWithin e) (y : ℕ) (l : y ≤ 480) (m : ℕ) (h : MarkOf e y m) where
-  -- the roundings are less than a unit
+  -- the roundings, times the step across, are less than a unit
   less : acrossOf (dy e) * (y + 1) < unit
   less =
       let n : y + 1 ≤ 481 = omega arith in

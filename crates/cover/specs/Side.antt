@@ -1,13 +1,13 @@
--- What a side and a mark hold. The value of an edge, less 1 where its zeros are outside, is taken with the sign that makes it rise along a row;
--- in a row it turns at one column, which its value by its step across says. A level edge does not turn: 640 times its value, rising by 1, keeps
--- its sign in every column of a screen.
+-- What a side and a mark hold. The value of an edge, less 1 where its zeros are outside, is taken with the sign that makes it rise along a row. In a
+-- row it turns at one column: its value, divided by what a column adds, says which. A level edge does not turn: 640 times its value, with 1 added at
+-- each column, keeps its sign in every column of a screen.
 use Prim.Native.Nat.{ℕ, _+_, _*_, _≤_, _<_}
 use mathlib.Core.Path.{_≡_}
-use mathlib.Core.Bool.{Bool, _&&_}
+use mathlib.Core.Bool.{Bool, _||_, _&&_}
 use lib.IntN.{ℤ, pos, negsuc, natAbs, _-ℤ_, _*ℤ_}
 use Rattle.rules.specs.declared.Triangle.{Triangle}
 use Rattle.rules.specs.Turns.{choose}
-use Rattle.rules.specs.Triangles.{Edge, dx, dy, edge1, edge2, edge3, edgeValue, sample, keepsZero, positive, isZero}
+use Rattle.rules.specs.Triangles.{Edge, dx, dy, edge1, edge2, edge3, edgeValue, sample, keepsZero, positive, isZero, negative}
 use Rattle.rules.specs.Numbers.{vertexInRange}
 use Rattle.cover.specs.declared.Side.{Side}
 use Rattle.cover.specs.declared.Sides.{Sides}
@@ -20,6 +20,10 @@ edgeFrom a b c d = record { x1 = a; y1 = b; x2 = c; y2 = d }
 abbrev pub edgeInRange : Edge → Bool
 edgeInRange e = vertexInRange (e .x1) && vertexInRange (e .y1) && vertexInRange (e .x2) && vertexInRange (e .y2)
 
+-- what an edge's value loses where its zeros are outside
+abbrev pub lossOf : ℤ → ℤ → ℤ
+lossOf dx dy = choose (negative dy || isZero dy && positive dx) (pos 0) (pos 1)
+
 -- the edge value, lowered so that a pixel is inside where it is not negative
 unfoldable pub sided : Edge → ℕ → ℕ → ℤ
 sided e x y = edgeValue e (sample x y) -ℤ choose (keepsZero e) (pos 0) (pos 1)
@@ -28,17 +32,18 @@ sided e x y = edgeValue e (sample x y) -ℤ choose (keepsZero e) (pos 0) (pos 1)
 abbrev pub rising : Edge → ℕ → ℕ → ℤ
 rising e x y = choose (positive (dy e)) (negsuc 0 -ℤ sided e x y) (sided e x y)
 
--- what a column adds to the rising value times `times`
+-- what a column adds, and how many times the value is taken: a level edge's 640 times, so that a column may add 1
 abbrev pub acrossOf : ℤ → ℕ
 acrossOf dy = choose (isZero dy) 1 (8 * natAbs dy)
 
 abbrev pub times : ℤ → ℕ
 times dy = choose (isZero dy) 640 1
 
--- that in parts of a column, and what a row adds to the rising value
+-- how many times, in parts of a column
 abbrev pub scaleOf : ℤ → ℤ
 scaleOf dy = pos (unit * times dy)
 
+-- what a row adds to the rising value
 abbrev pub downOf : ℤ → ℤ → ℤ
 downOf dx dy = choose (positive dy) (pos 0 -ℤ pos 8 *ℤ dx) (pos 8 *ℤ dx)
 

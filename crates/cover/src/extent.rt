@@ -1,17 +1,19 @@
-// Which rows a triangle can touch.
+// Which rows a triangle can touch: those whose sample points lie between its vertices.
+use crate::setup::SAMPLE_OFFSET;
 ghost use mathlib.Core.Path.{_≡_};
 ghost use mathlib.Core.Bool.{true};
 ghost use Prim.Native.Nat.{ℕ, _≤_, _<_};
-ghost use lib.IntN.{pos, _+ℤ_};
+ghost use lib.IntN.{pos, natAbs, _+ℤ_};
+ghost use lib.Signed.{_≤ℤ_};
 ghost use Rattle.rules.specs.Numbers.{vertexInRange};
 ghost use Rattle.cover.specs.Extent.{Before, Beyond};
 
-// A vertex number raised by 8,192, so that it is not negative.
-fn raised(v: i32) -> u32
-    requires { ⌜ vertexInRange v ≡ true ⌝ }
-    ensures { λ r. ⌜ pos r ≡ v +ℤ pos 8192 ⌝ }
+// A vertex number raised, so that it is not negative.
+fn raised(v: i32, by: i64) -> u32
+    requires { ⌜ (vertexInRange v ≡ true) × (pos 8192 ≤ℤ by) × (natAbs by ≤ 8200) ⌝ }
+    ensures { λ r. ⌜ pos r ≡ v +ℤ by ⌝ }
 {
-    (v as i64 + 8192) as u32
+    (v as i64 + by) as u32
 }
 
 // A number that is at most each of the three.
@@ -46,26 +48,28 @@ fn greatest(a: u32, b: u32, c: u32) -> u32
     c
 }
 
-// All rows before this one lie wholly before the three numbers.
+// All rows before this one have their sample points before the three numbers.
 pub fn first_touched(a: i32, b: i32, c: i32) -> u32
     requires { ⌜ (vertexInRange a ≡ true) × (vertexInRange b ≡ true) × (vertexInRange c ≡ true) ⌝ }
     ensures { λ r. ⌜ ((k : ℕ) → k < r → Before a b c k) ⌝ }
 {
-    let low = least(raised(a), raised(b), raised(c));
+    let by = 8199 - SAMPLE_OFFSET;
+    let low = least(raised(a, by), raised(b, by), raised(c, by));
     if low < 8192 {
         return 0;
     }
     (low - 8192) / 8
 }
 
-// This row and all after it lie wholly beyond the three numbers.
+// This row and all after it have theirs beyond them.
 pub fn past_touched(a: i32, b: i32, c: i32) -> u32
     requires { ⌜ (vertexInRange a ≡ true) × (vertexInRange b ≡ true) × (vertexInRange c ≡ true) ⌝ }
     ensures { λ r. ⌜ ((k : ℕ) → r ≤ k → Beyond a b c k) ⌝ }
 {
-    let high = greatest(raised(a), raised(b), raised(c));
+    let by = 8200 - SAMPLE_OFFSET;
+    let high = greatest(raised(a, by), raised(b, by), raised(c, by));
     if high < 8192 {
         return 0;
     }
-    (high - 8192) / 8 + 1
+    (high - 8192) / 8
 }

@@ -1,9 +1,9 @@
 // An edge's values in parts of a column.
-use crate::units::above;
+use crate::units::rounded_up;
 ghost use mathlib.Core.Path.{_≡_};
 ghost use Prim.Native.Nat.{_≤_};
 ghost use lib.IntN.{natAbs, _*ℤ_};
-ghost use Rattle.cover.specs.Units.{Rounded};
+ghost use Rattle.cover.specs.Units.{Raisable, Rounded};
 ghost use Rattle.cover.specs.Side.{acrossOf, scaleOf};
 
 // The parts of a column, and of 640 columns.
@@ -25,23 +25,20 @@ fn across(dy: i64) -> u64
     1
 }
 
-// What the rising value is taken times: the parts of a column, or of all columns where it does not rise.
+// What the rising value is multiplied by: the parts of a column, or of 640 columns where it does not rise.
 fn scale(dy: i64) -> i64
     ensures { λ r. ⌜ r ≡ scaleOf dy ⌝ }
 {
-    if 0 < dy {
-        return SCALE;
+    if dy == 0 {
+        return LEVEL_SCALE;
     }
-    if dy < 0 {
-        return SCALE;
-    }
-    LEVEL_SCALE
+    SCALE
 }
 
 // v by the step across, in parts of a column, rounded up and raised by r.
 pub fn in_parts(v: i64, dy: i64, r: u64) -> u64
-    requires { ⌜ (natAbs dy ≤ 16384) × (natAbs (scaleOf dy *ℤ v) ≤ 9000000000000000000) × (natAbs (scaleOf dy *ℤ v) ≤ r) × (r ≤ 9223372036854775808) ⌝ }
+    requires { ⌜ (natAbs dy ≤ 16384) × Raisable (scaleOf dy *ℤ v) r ⌝ }
     ensures { λ m. ⌜ Rounded (scaleOf dy *ℤ v) (acrossOf dy) r 1 m ⌝ }
 {
-    above(scale(dy) * v, across(dy), r)
+    rounded_up(scale(dy) * v, across(dy), r)
 }

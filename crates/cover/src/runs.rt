@@ -13,7 +13,7 @@ ghost use Rattle.cover.specs.Units.{unit, raise};
 ghost use Rattle.cover.specs.Side.{SidesOf, MarksOf};
 ghost use Rattle.cover.specs.Runs.{begun, ended, columnOf, RunOf};
 
-// Of two marks where the inside begins, the one further right: the lesser.
+// Of two marks where the inside begins, the one further right, which is the lesser; one where it ends does not count.
 fn begin(mark: u64, ends: bool, least: u64) -> u64
     ensures { λ r. ⌜ r ≡ begun mark ends least ⌝ }
 {
@@ -26,7 +26,7 @@ fn begin(mark: u64, ends: bool, least: u64) -> u64
     least
 }
 
-// Of two where it ends, the one further left: the greater.
+// Of two where it ends, the one further left, which is the greater; one where it begins does not count.
 fn end(mark: u64, ends: bool, most: u64) -> u64
     ensures { λ r. ⌜ r ≡ ended mark ends most ⌝ }
 {

@@ -5,16 +5,15 @@ use crate::parts::in_parts;
 use crate::units::LIFT;
 use rules::Triangle;
 ghost use mathlib.Core.Path.{_≡_};
-ghost use mathlib.Core.Bool.{true, _||_, _&&_};
-ghost use lib.IntN.{pos, natAbs};
-ghost use Rattle.rules.specs.Turns.{choose};
+ghost use mathlib.Core.Bool.{true};
 ghost use Prim.Native.Nat.{_≤_};
-ghost use Rattle.rules.specs.Triangles.{positive, isZero, negative, edgeValue, sample};
+ghost use lib.IntN.{natAbs};
+ghost use Rattle.rules.specs.Triangles.{edgeValue, sample};
 ghost use Rattle.rules.specs.Numbers.{verticesInRange};
-ghost use Rattle.cover.specs.Side.{edgeFrom, edgeInRange, rising, downOf, SideOf, SidesOf};
+ghost use Rattle.cover.specs.Side.{edgeFrom, edgeInRange, lossOf, rising, downOf, SideOf, SidesOf};
 
 // How far to the right and down in its pixel the sample point lies.
-const SAMPLE_OFFSET: i64 = 0;
+pub const SAMPLE_OFFSET: i64 = 0;
 
 // The parts of a column, and of 640 columns.
 const SCALE: i64 = 67108864;
@@ -35,7 +34,7 @@ pub fn edge_value(x1: i32, y1: i32, x2: i32, y2: i32, x: u32, y: u32) -> i64
 
 // What an edge's value loses where its zeros are outside.
 fn loss(dx: i64, dy: i64) -> i64
-    ensures { λ r. ⌜ r ≡ choose (negative dy || isZero dy && positive dx) (pos 0) (pos 1) ⌝ }
+    ensures { λ r. ⌜ r ≡ lossOf dx dy ⌝ }
 {
     if 0 < dy {
         return 1;

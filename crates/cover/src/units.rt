@@ -1,12 +1,12 @@
-// Parts of a column, and quotients rounded up to them.
+// A column in parts, and quotients rounded up to whole numbers.
 ghost use mathlib.Core.Path.{_≡_};
 ghost use Prim.Native.Nat.{_≤_};
 ghost use lib.IntN.{natAbs, pos, negsuc, _-ℤ_};
 ghost use Rattle.rules.specs.Turns.{choose};
 ghost use Rattle.rules.specs.Triangles.{negative};
-ghost use Rattle.cover.specs.Units.{Rounded};
+ghost use Rattle.cover.specs.Units.{Raisable, Rounded};
 
-// The parts of a column: more than a step across times the rows of a screen, so that a rounding in each row turns no pixel.
+// A column, in parts: more than a step across times the rows of a screen, so that a rounding in each row turns no pixel.
 pub const UNIT: u64 = 67108864;
 
 // What a mark is raised by, so that none is negative.
@@ -26,9 +26,9 @@ fn folded(z: i64) -> u64
     z as u64
 }
 
-// The least whole number above z / a, raised by r.
-pub fn above(z: i64, a: u64, r: u64) -> u64
-    requires { ⌜ (natAbs z ≤ 9000000000000000000) × (natAbs z ≤ r) × (r ≤ 9223372036854775808) × (1 ≤ a) ⌝ }
+// A whole number that is z / a or more, by 1 at most, raised by r.
+pub fn rounded_up(z: i64, a: u64, r: u64) -> u64
+    requires { ⌜ Raisable z r × (1 ≤ a) ⌝ }
     ensures { λ m. ⌜ Rounded z a r 1 m ⌝ }
 {
     let on = folded(z) / a;

@@ -14,10 +14,9 @@ use Rattle.rules.specs.Triangles.{sample, insideAll, covered, written, pixelDra
 use Rattle.rules.proofs.Turns.{upto-add, upto-still, howMany-add, howMany-none, howMany-same}
 use Rattle.rules.proofs.Pixels.{On}
 use Rattle.cover.specs.Runs.{inRun}
-use Rattle.cover.proofs.Columns.{run-before, run-beyond}
-use Rattle.draw.specs.Leaves.{RunAsked, RunDone}
+use Rattle.cover.proofs.Columns.{run-within, run-before, run-beyond, run-many}
+use Rattle.draw.specs.Pixels.{RunAsked, RunDone}
 use Rattle.draw.specs.Rows.{RowAsked, RowDone}
-use Rattle.draw.proofs.Counting.{run-many}
 use Rattle.draw.proofs.Stretch.{not-written, pixel-still}
 
 -- on the screen, covered is inside
@@ -27,9 +26,6 @@ covered-is t s p = rw (lt-ltb _ _ (p .across), lt-ltb _ _ (p .down))
 
 pub outside-uncovered : (t : Triangle) (s : Screen) {x y : ℕ} → On s x y → insideAll t (sample x y) ≡ false → covered t s x y ≡ false
 outside-uncovered t s p h = covered-is t s p ∙ h
-
-run-within : (a b x : ℕ) → a ≤ x → x < b → inRun a b x ≡ true
-run-within a b x h l = rw (le-leb a x h, lt-ltb x b l)
 
 -- a row in three parts, of which the first and the last do nothing
 module _ (a k n : ℕ) where

@@ -19,7 +19,7 @@ use Rattle.rules.proofs.Pixels.{Sound, On, sound-facts, width-le, colour-depth-
 use Rattle.rules.proofs.Halves.{apart-sym, putHalf-comm}
 use Rattle.draw.specs.declared.Tints.{Tints}
 use Rattle.draw.specs.Planes.{tintsAt, tintSteps, tintsMoved}
-use Rattle.draw.specs.Leaves.{passes, LeafDone, RunAsked, RunDone}
+use Rattle.draw.specs.Pixels.{passes, PixelDone, RunAsked, RunDone}
 use Rattle.draw.proofs.Affine.{tints-right}
 use Rattle.draw.proofs.Stretch.{stretch, length-stretch, written-stretch}
 
@@ -86,7 +86,7 @@ module _ (m₀ : List ℕ) (s : Screen) (t : Triangle) (x y : ℕ) where
             (apart-sym (colour-depth-apart facts on-screen on-screen)))
 
         pub turn-more : (r : ℕ) (m′ : List ℕ) (v′ : Tints)
-            → LeafDone m (colourAt s (x + k) y) (depthAt s (x + k) y) v w r m′
+            → PixelDone m (colourAt s (x + k) y) (depthAt s (x + k) y) v w r m′
             → v′ ≡ tintsMoved v (tintSteps t)
             → Turn m₀ s t x y m′ (k + 1) v′ r
         unfolding pixelDrawn

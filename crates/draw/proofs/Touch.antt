@@ -1,14 +1,13 @@
--- Rows that lie wholly before or beyond all three vertices hold nothing inside, wherever in its pixel the sample point lies.
-use Prim.Native.Nat.{ℕ, _+_, _*_, _≤_, _<_}
+-- Rows whose sample points lie before or beyond all three vertices hold nothing inside.
+use Prim.Native.Nat.{ℕ, _+_, _*_}
 use mathlib.Core.Path.{_≡_, _∙_, ap, subst}
 use mathlib.Core.Bool.{true, false}
 use native.Mathlib.Omega.{arith}
 use lib.IntN.{ℤ, pos}
-use lib.Signed.{_<ℤ_, <ℤ-≤ℤ-trans}
+use lib.Signed.{_<ℤ_}
 use mir.Syntax.{w32}
 use mir.Val.{toZ, ofZ}
 use mir.ValLaws.{toZ-ofZ}
-use Rattle.ints.proofs.Order.{pos-le, ≤ℤ-<ℤ-trans}
 use Rattle.ints.proofs.Bounds.{fits-32}
 use Rattle.rules.specs.declared.Triangle.{Triangle}
 use Rattle.rules.specs.Triangles.{sampleOffset, sample, insideAll}
@@ -17,21 +16,14 @@ use Rattle.cover.specs.Extent.{Before, Beyond}
 use Rattle.cover.proofs.Along.{vertex-within}
 use Rattle.cover.proofs.Outside.{above, below}
 
--- the sample point lies in its pixel
-after-start : {v : ℤ} (k : ℕ) → v <ℤ pos (8 * k) → v <ℤ pos (8 * k + sampleOffset)
-after-start k h = <ℤ-≤ℤ-trans h (pos-le (omega arith))
-
-before-end : {v : ℤ} (k : ℕ) → pos (8 * k + 7) <ℤ v → pos (8 * k + sampleOffset) <ℤ v
-before-end k h = ≤ℤ-<ℤ-trans (pos-le (omega arith)) h
-
 module _ (t : Triangle) (x y : ℕ) where
   pub row-before : Before (t .y1) (t .y2) (t .y3) y → insideAll t (sample x y) ≡ false
   unfolding sample
-  row-before b = above t (sample x y) (before-end y (b .first)) (before-end y (b .second)) (before-end y (b .third))
+  row-before b = above t (sample x y) (b .first) (b .second) (b .third)
 
   pub row-beyond : Beyond (t .y1) (t .y2) (t .y3) y → insideAll t (sample x y) ≡ false
   unfolding sample
-  row-beyond b = below t (sample x y) (after-start y (b .first)) (after-start y (b .second)) (after-start y (b .third))
+  row-beyond b = below t (sample x y) (b .first) (b .second) (b .third)
 
 -- three numbers, read back from the machine's words
 
@@ -45,15 +37,15 @@ module _ (a b c : ℤ) (ha : vertexInRange a ≡ true) (hb : vertexInRange b ≡
   pub read-before : Before (toZ w32 (ofZ w32 a)) (toZ w32 (ofZ w32 b)) (toZ w32 (ofZ w32 c)) k → Before a b c k
   read-before h =
       record {
-        first = subst (λ (z : ℤ). pos (8 * k + 7) <ℤ z) (read-vertex a ha) (h .first);
-        second = subst (λ (z : ℤ). pos (8 * k + 7) <ℤ z) (read-vertex b hb) (h .second);
-        third = subst (λ (z : ℤ). pos (8 * k + 7) <ℤ z) (read-vertex c hc) (h .third);
+        first = subst (λ (z : ℤ). pos (8 * k + sampleOffset) <ℤ z) (read-vertex a ha) (h .first);
+        second = subst (λ (z : ℤ). pos (8 * k + sampleOffset) <ℤ z) (read-vertex b hb) (h .second);
+        third = subst (λ (z : ℤ). pos (8 * k + sampleOffset) <ℤ z) (read-vertex c hc) (h .third);
       }
 
   pub read-beyond : Beyond (toZ w32 (ofZ w32 a)) (toZ w32 (ofZ w32 b)) (toZ w32 (ofZ w32 c)) k → Beyond a b c k
   read-beyond h =
       record {
-        first = subst (λ (z : ℤ). z <ℤ pos (8 * k)) (read-vertex a ha) (h .first);
-        second = subst (λ (z : ℤ). z <ℤ pos (8 * k)) (read-vertex b hb) (h .second);
-        third = subst (λ (z : ℤ). z <ℤ pos (8 * k)) (read-vertex c hc) (h .third);
+        first = subst (λ (z : ℤ). z <ℤ pos (8 * k + sampleOffset)) (read-vertex a ha) (h .first);
+        second = subst (λ (z : ℤ). z <ℤ pos (8 * k + sampleOffset)) (read-vertex b hb) (h .second);
+        third = subst (λ (z : ℤ). z <ℤ pos (8 * k + sampleOffset)) (read-vertex c hc) (h .third);
       }

@@ -1,4 +1,4 @@
 -- The vocabulary of this crate's interior contracts.
 pub mod Planes
-pub mod Leaves
+pub mod Pixels
 pub mod Rows

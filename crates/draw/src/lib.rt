@@ -1,6 +1,6 @@
 // Drawing a triangle on a screen in lent memory: pixel, run, row, frame, call.
 pub mod frames;
-pub mod leaves;
+pub mod pixels;
 pub mod planes;
 pub mod rows;
 pub mod spans;

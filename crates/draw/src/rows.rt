@@ -1,6 +1,6 @@
 // A row: its run of covered pixels, counted by its groups' masks, and drawn.
 use crate::Counts;
-use crate::leaves::run;
+use crate::pixels::run;
 use cover::masks::leaves_mask;
 use rules::Screen;
 use rules::Triangle;
@@ -22,7 +22,7 @@ fn lesser(a: u32, b: u32) -> u32
     b
 }
 
-// How many columns there are from `from` up to but not including `to`: each group's mask has a one for each of its own, and the ones are added.
+// How many columns there are from `from` up to but not including `to`, by masks as 01 has it: each group's has a one for each of its own, and the ones are added.
 fn counted(from: u32, to: u32) -> u32
     requires { ⌜ (from ≤ to) × (to ≤ 640) ⌝ }
     ensures { λ r. ⌜ r ≡ howMany (inRun from to) to ⌝ }

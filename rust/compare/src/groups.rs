@@ -22,6 +22,7 @@ pub fn all(run: &mut Run) {
     run.group("points, lines and slivers", slivers);
     run.group("far vertices", far);
     run.group("largest edge values", largest_edges);
+    run.group("long edges", long_edges);
     run.group("shared edges", shared_edges);
     run.group("fans", fans);
     run.group("depth", depth);
@@ -688,6 +689,45 @@ fn largest_edges(run: &mut Run, rng: &mut Rng) {
         let t = Triangle { green: flat(5), depth: flat(0x4000), ..plain(v) };
         run.case_wants(&Case::one(ram, Fill::Random(rng.next()), screen, Call::Draw(t)), 0, None, None);
     }
+}
+
+/// Nearly the longest edges, placed so that their value at a pixel of the
+/// largest screen's last rows is -1, 0 or 1: the least that rounding summed
+/// over all rows could turn.
+fn long_edges(run: &mut Run, rng: &mut Rng) {
+    let (screen, ram) = tight(20960);
+    let in_range = |v: i64| (-8192..=8191).contains(&v);
+    let mut turn = 0;
+    while turn < 240 {
+        let (short, value) = (rng.between(0, 300), turn % 3 - 1);
+        let (dy, y1) = (16383 - short, -8192 + rng.between(0, short));
+        let up = 8 * rng.between(470, 479) - y1;
+        let Some(inverse) = inverse(up, dy) else { continue };
+        // up * dx - left * dy is the value.
+        let dx = (value * inverse).rem_euclid(dy) - if rng.chance(2) { dy } else { 0 };
+        let left = (up * dx - value) / dy;
+        let x1 = 8 * rng.between(0, 639) - left;
+        if !in_range(x1) || !in_range(x1 + dx) {
+            continue;
+        }
+        let side = if rng.chance(2) { -8192 } else { 8191 };
+        let v = [x1, y1, x1 + dx, y1 + dy, side, rng.between(-8192, 8191)].map(|n| n as i32);
+        let v = if rng.chance(8) { v } else { random::turned_right(v) };
+        let t = Triangle { green: flat(5), depth: flat(0x4000), ..plain(v) };
+        run.case(&Case::one(ram, Fill::Random(rng.next()), screen, Call::Draw(t)));
+        turn += 1;
+    }
+}
+
+/// The number that a makes 1 with, modulo n, if there is one.
+fn inverse(a: i64, n: i64) -> Option<i64> {
+    let (mut r, mut next, mut s, mut t) = (a % n, n, 1, 0);
+    while next != 0 {
+        let q = r / next;
+        (r, next) = (next, r - q * next);
+        (s, t) = (t, s - q * t);
+    }
+    (r == 1).then(|| s.rem_euclid(n))
 }
 
 /// "Two triangles that run along a common edge of non-zero length in opposite

@@ -1,10 +1,14 @@
--- Where the least raised number is below 8,192 nothing is claimed; else its whole pixels past 8,192 lie before all three.
-use Prim.Native.Nat.{_+_, _*_, _≤_}
+-- Where the least raised number is below 8,192 nothing is claimed; else the rows by its whole pixels past 8,192 have their sample points before all three.
+use Prim.Native.Nat.{_+_, _*_, _-_, _<_}
 use native.Mathlib.Omega.{arith}
 use borrow.Author.Needs.{needs}
+use Rattle.rules.specs.Triangles.{sampleOffset}
 use Rattle.cover.proofs.Raised.{before-raised}
 use Rattle.cover.proofs.extent.first_touched.Statement.{statement}
 use Rattle.cover.proofs.extent.first_touched.Tie as tie
+
+sub-by : tie.Need-sub-by
+sub-by c = search needs
 
 raised-requires : tie.Need-raised-requires
 raised-requires c κs = search needs
@@ -25,14 +29,15 @@ returns-2 : tie.Need-returns-2
 returns-2 c k h =
     let s = c .before .before .before .before .before in
     let l = c .before .least in
-    let n : 8200 + 8 * k ≤ l .result = omega (arith, h, c .if1 .left) in
+    let n = 8199 - sampleOffset in
+    let m : sampleOffset + n + 8 * k < l .result = omega (arith, h, c .if1 .left) in
     record {
-      first = before-raised (s .fits .a) (c .before .before .before .before .raised .ensures) k (l .ensures .0) n;
-      second = before-raised (s .fits .b) (c .before .before .before .raised2 .ensures) k (l .ensures .1) n;
-      third = before-raised (s .fits .c) (c .before .before .raised3 .ensures) k (l .ensures .2) n;
+      first = before-raised n (s .fits .a) (c .before .before .before .before .raised .ensures) k (l .ensures .0) m;
+      second = before-raised n (s .fits .b) (c .before .before .before .raised2 .ensures) k (l .ensures .1) m;
+      third = before-raised n (s .fits .c) (c .before .before .raised3 .ensures) k (l .ensures .2) m;
     }
 
 pub first-touched-spec : {M : Type 1} → statement M
 first-touched-spec =
     tie.close
-    (tie.spec raised-requires raised-requires-2 raised-requires-3 least-requires returns returns-2)
+    (tie.spec sub-by raised-requires raised-requires-2 raised-requires-3 least-requires returns returns-2)

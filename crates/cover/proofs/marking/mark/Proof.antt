@@ -50,16 +50,14 @@ is-scaled : (c : tie.After-rising-value) →
     scaleOf (toZ w64 (word-of (dyC s))) *ℤ toZ w64 (ofZ w64 (c .rising-value .result)) ≡ scaleOf (dy (edge s)) *ℤ rising (edge s) 0 (s .args .y)
 is-scaled c =
     let s = c .before in
-    let w = rising-within (edge s) (in-range s) (s .args .y) (s .pre .1) in
-    ap₂ (λ (d v : ℤ). scaleOf d *ℤ v) (reads-as (dyC s) tt)
-    (toZ-ofZ w64 (c .rising-value .result) (fits-64 (subst (Within 419659778) (sym (is-rising c)) w) (omega arith)) ∙ is-rising c)
+    code.scaled-read (dyC s) tt (is-rising c) (rising-within (edge s) (in-range s) (s .args .y) (s .pre .1)) (omega arith)
 
 in-parts-requires : tie.Need-in-parts-requires
 in-parts-requires c κs =
     let s = c .before in
     let n = ap natAbs (is-scaled c) in
     let w = scaled-within (edge s) (in-range s) (s .args .y) (s .pre .1) in
-    (size-of (dyC s) tt, omega (arith, n, w .within), omega (arith, n, w .within), omega arith)
+    (size-of (dyC s) tt, record { fits = omega (arith, n, w .within); below = omega (arith, n, w .within); most = omega arith })
 
 returns : tie.Need-returns
 returns c =

@@ -10,8 +10,8 @@ use Rattle.ints.proofs.Poly.{var, con, neg, _⊖_, _⊗_, solve}
 use Rattle.ints.proofs.Order.{le-of, lt-to, ltZ-true}
 use Rattle.ints.proofs.Bounds.{abs-neg, abs-mul}
 use Rattle.ints.proofs.Machine.{got-arg, Code, known, _⊟_, _⊠_, need, got-of, reads-as, need-unsigned}
-use Rattle.cover.proofs.Along.{below, positive-true, positive-only, negative-only, neither}
-use Rattle.cover.proofs.Codes.{zeroC, eightC, read-above, read-below}
+use Rattle.cover.proofs.Along.{below, positive-true}
+use Rattle.cover.proofs.Codes.{zeroC, eightC, read-above, read-below, above-zero, below-zero, neither-zero}
 use Rattle.cover.proofs.parts.across.Statement.{statement}
 use Rattle.cover.proofs.parts.across.Tie as tie
 
@@ -47,7 +47,7 @@ cast-result c = need-unsigned w64 (got-of (up (c .before)) tt) (up-natural c) tt
 returns : tie.Need-returns
 returns c =
     let a = c .before in
-    rw (positive-only (a .args .dy) (read-above (a .args .dy) (a .fits .dy) (c .if1 .taken)) .1)
+    rw (above-zero (a .args .dy) (a .fits .dy) (c .if1 .taken))
     (ap natAbs (reads-as (up a) tt) ∙ abs-mul (pos 8) (a .args .dy))
 
 mul-result-2 : tie.Need-mul-result-2
@@ -62,13 +62,13 @@ cast-result-2 c = need-unsigned w64 (got-of (down (c .before .before)) tt) (down
 returns-2 : tie.Need-returns-2
 returns-2 c =
     let a = c .before .before in
-    rw (negative-only (a .args .dy) (read-below (a .args .dy) (a .fits .dy) (c .if2 .taken)) .1)
+    rw (below-zero (a .args .dy) (a .fits .dy) (c .if2 .taken))
     (ap natAbs (reads-as (down a) tt) ∙ abs-down (a .args .dy))
 
 returns-3 : tie.Need-returns-3
 returns-3 c =
     let a = c .before .before in
-    rw (neither (a .args .dy) (read-above (a .args .dy) (a .fits .dy) (c .before .if1 .left)) (read-below (a .args .dy) (a .fits .dy) (c .if2 .left)))
+    rw (neither-zero (a .args .dy) (a .fits .dy) (c .before .if1 .left) (c .if2 .left))
 
 pub across-spec : {M : Type 1} → statement M
 across-spec =

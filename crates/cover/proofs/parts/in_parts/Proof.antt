@@ -1,4 +1,4 @@
--- The scaled value is within 64 bits by what is asked, and its quotient is what `above` promises.
+-- The scaled value is within 64 bits by what is asked, and its quotient is what `rounded_up` promises.
 use mathlib.Core.Path.{_≡_, sym, _∙_, ap, ap₂, subst, subst₂}
 use native.Mathlib.Omega.{arith}
 use lib.IntN.{natAbs, _*ℤ_}
@@ -33,10 +33,10 @@ product c =
     (toZ-ofZ w64 (c .scale .result) (fits-64 (subst (Within 42949672960) (sym (is-scale c)) (scale-within (s .args .dy))) (omega arith))
     ∙ is-scale c)
     (toZ-ofZ w64 (s .args .v) (s .fits .v)))
-    (record { within = s .pre .1 }) tt
+    (record { within = s .pre .1 .fits }) tt
 
-mul-above : tie.Need-mul-above
-mul-above c = product c .fits
+mul-rounded-up : tie.Need-mul-rounded-up
+mul-rounded-up c = product c .fits
 
 across-requires : tie.Need-across-requires
 across-requires c κs = let s = c .before in omega (arith, ap natAbs (own s), s .pre .0)
@@ -44,20 +44,22 @@ across-requires c κs = let s = c .before in omega (arith, ap natAbs (own s), s 
 is-across : (c : tie.After-across) → c .across .result ≡ acrossOf (c .before .before .args .dy)
 is-across c = c .across .ensures ∙ ap acrossOf (own (c .before .before))
 
-above-requires : tie.Need-above-requires
-above-requires c κs =
+rounded-up-requires : tie.Need-rounded-up-requires
+rounded-up-requires c κs =
     let s = c .before .before in
     let n = ap natAbs (product (c .before) .got .reads) in (
-      omega (arith, n, s .pre .1),
-      omega (arith, n, s .pre .2),
-      s .pre .3,
+      record {
+        fits = omega (arith, n, s .pre .1 .fits);
+        below = omega (arith, n, s .pre .1 .below);
+        most = s .pre .1 .most;
+      },
       omega (arith, is-across c, across-least (s .args .dy)),
     )
 
 returns : tie.Need-returns
 returns c =
     let s = c .before .before .before in
-    subst₂ (λ z a. Rounded z a (s .args .r) 1 (c .above .result)) (product (c .before .before) .got .reads) (is-across (c .before)) (c .above .ensures)
+    subst₂ (λ z a. Rounded z a (s .args .r) 1 (c .rounded-up .result)) (product (c .before .before) .got .reads) (is-across (c .before)) (c .rounded-up .ensures)
 
 pub in-parts-spec : {M : Type 1} → statement M
-in-parts-spec = tie.close (tie.spec scale-requires mul-above across-requires above-requires returns)
+in-parts-spec = tie.close (tie.spec scale-requires mul-rounded-up across-requires rounded-up-requires returns)

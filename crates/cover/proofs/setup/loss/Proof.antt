@@ -1,6 +1,6 @@
 -- The two tests of dy and the one of dx say which case of the tie rule holds.
-use Rattle.cover.proofs.Along.{positive-only, neither}
-use Rattle.cover.proofs.Codes.{read-above, read-below}
+use Rattle.cover.proofs.Along.{positive-only}
+use Rattle.cover.proofs.Codes.{read-above, read-below, neither-zero}
 use Rattle.cover.proofs.setup.loss.Statement.{statement}
 use Rattle.cover.proofs.setup.loss.Tie as tie
 
@@ -17,14 +17,14 @@ returns-3 : tie.Need-returns-3
 returns-3 c =
     let a = c .before .before .before in
     let n = read-below (a .args .dy) (a .fits .dy) (c .before .if2 .left) in
-    let z = neither (a .args .dy) (read-above (a .args .dy) (a .fits .dy) (c .before .before .if1 .left)) n in
+    let z = neither-zero (a .args .dy) (a .fits .dy) (c .before .before .if1 .left) (c .before .if2 .left) in
     rw (n, z, read-above (a .args .dx) (a .fits .dx) (c .if3 .taken))
 
 returns-4 : tie.Need-returns-4
 returns-4 c =
     let a = c .before .before .before in
     let n = read-below (a .args .dy) (a .fits .dy) (c .before .if2 .left) in
-    let z = neither (a .args .dy) (read-above (a .args .dy) (a .fits .dy) (c .before .before .if1 .left)) n in
+    let z = neither-zero (a .args .dy) (a .fits .dy) (c .before .before .if1 .left) (c .before .if2 .left) in
     rw (n, z, read-above (a .args .dx) (a .fits .dx) (c .if3 .left))
 
 pub loss-spec : {M : Type 1} → statement M

@@ -1,14 +1,13 @@
 -- The signed sums are within 64 bits by the vertices' range, and the test of dy is that of the definition.
 use mathlib.Core.Path.{_≡_, sym, _∙_, ap, ap₂, subst}
-use mathlib.Core.Bool.{_&&_, _||_}
 use native.Mathlib.Omega.{arith}
 use lib.IntN.{ℤ, pos, negsuc, _-ℤ_}
 use mir.Syntax.{w64}
 use Rattle.ints.proofs.Bounds.{Within}
 use Rattle.ints.proofs.Machine.{got-in, Code, known, _⊟_, need, reads-as}
 use Rattle.rules.specs.Turns.{choose}
-use Rattle.rules.specs.Triangles.{Edge, sample, edgeValue, keepsZero, negative, isZero, positive}
-use Rattle.cover.specs.Side.{edgeFrom, sided}
+use Rattle.rules.specs.Triangles.{Edge, sample, edgeValue, keepsZero}
+use Rattle.cover.specs.Side.{edgeFrom, lossOf, sided}
 use Rattle.cover.proofs.Along.{EdgeWithin, edge-within, loss-within, read-in-range}
 use Rattle.cover.proofs.Codes as code
 use Rattle.cover.proofs.Codes.{turnedC, answeredC, answered, code-above}
@@ -26,9 +25,6 @@ dx c = code.dxC (edge c) (in-range c)
 
 abbrev dy : tie.Start → Code w64
 dy c = code.dyC (edge c) (in-range c)
-
-abbrev lossOf : ℤ → ℤ → ℤ
-lossOf x y = choose (negative y || isZero y && positive x) (pos 0) (pos 1)
 
 lost : (c : tie.After-loss) → c .loss .result ≡ choose (keepsZero (edge (c .before .before))) (pos 0) (pos 1)
 unfolding keepsZero

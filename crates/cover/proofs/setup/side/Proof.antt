@@ -62,16 +62,14 @@ is-scaled : (c : tie.After-down) →
     scaleOf (toZ w64 (word-of (dyC (c .before)))) *ℤ toZ w64 (ofZ w64 (c .down .result)) ≡ scaleOf (dy e) *ℤ downOf (dx e) (dy e)
 is-scaled c =
     let e = edge (c .before) in
-    let w = down-within (dx e) (dy e) (small (c .before)) in
-    ap₂ (λ (d v : ℤ). scaleOf d *ℤ v) (reads-as (dyC (c .before)) tt)
-    (toZ-ofZ w64 (c .down .result) (fits-64 (subst (Within 131072) (sym (is-down c)) w) (omega arith)) ∙ is-down c)
+    code.scaled-read (dyC (c .before)) tt (is-down c) (down-within (dx e) (dy e) (small (c .before))) (omega arith)
 
 in-parts-requires : tie.Need-in-parts-requires
 in-parts-requires c κs =
     let e = edge (c .before) in
     let n = ap natAbs (is-scaled c) in
     let w = down-scaled-within (dx e) (dy e) (small (c .before)) in
-    (size-of (dyC (c .before)) tt, omega (arith, n, w .within), omega (arith, n, w .within), omega arith)
+    (size-of (dyC (c .before)) tt, record { fits = omega (arith, n, w .within); below = omega (arith, n, w .within); most = omega arith })
 
 returns : tie.Need-returns
 returns c =

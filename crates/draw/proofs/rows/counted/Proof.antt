@@ -3,7 +3,8 @@ use Prim.Native.Nat.{_+_, _-_, _%_}
 use mathlib.Core.Path.{_≡_, ap}
 use native.Mathlib.Omega.{arith}
 use lib.Count.{ones}
-use Rattle.draw.proofs.Counting.{run-many, run-ones, in-group}
+use Rattle.cover.proofs.Columns.{run-many}
+use Rattle.draw.proofs.Counting.{run-ones, in-group}
 use Rattle.draw.proofs.rows.counted.Statement.{statement}
 use Rattle.draw.proofs.rows.counted.Tie as tie
 

@@ -14,7 +14,7 @@ use Rattle.draw.specs.declared.Tints.{Tints}
 abbrev pub passes : List ℕ → ℕ → Tints → Bool
 passes m depth v = leb (topHalf (v .depth)) (half m depth)
 
-pub record LeafDone (m : List ℕ) (colour depth : ℕ) (v : Tints) (before answer : ℕ) (after : List ℕ) : Type 0 where
+pub record PixelDone (m : List ℕ) (colour depth : ℕ) (v : Tints) (before answer : ℕ) (after : List ℕ) : Type 0 where
   pub counts : answer ≡ before + bit (passes m depth v)
   pub leaves : after
       ≡ choose (passes m depth v)

@@ -14,8 +14,8 @@ use Rattle.cover.specs.Units.{Rounded}
 use Rattle.cover.proofs.Codes.{read-below}
 use Rattle.cover.proofs.Quotients.{rounded-on, rounded-back}
 use borrow.Author.Needs.{needs}
-use Rattle.cover.proofs.units.above.Statement.{statement}
-use Rattle.cover.proofs.units.above.Tie as tie
+use Rattle.cover.proofs.units.rounded_up.Statement.{statement}
+use Rattle.cover.proofs.units.rounded_up.Tie as tie
 
 abbrev fold : ℤ → ℤ
 fold z = choose (negative z) (negsuc 0 -ℤ z) z
@@ -27,7 +27,7 @@ size (negsuc k) n e =
     omega arith
 
 folded-requires : tie.Need-folded-requires
-folded-requires c κs = search needs
+folded-requires c κs = omega (arith, ap natAbs (toZ-ofZ w64 (c .args .z) (c .fits .z)), c .pre .0 .fits)
 
 is-folded : (c : tie.After-folded) → pos (c .folded .result) ≡ fold (c .before .args .z)
 is-folded c = c .folded .ensures ∙ ap fold (toZ-ofZ w64 (c .before .args .z) (c .before .fits .z))
@@ -49,21 +49,21 @@ div-on : tie.Need-div-on
 div-on c = search needs
 
 sub-result : tie.Need-sub-result
-sub-result c = omega (arith, small (c .before), c .before .before .pre .1)
+sub-result c = omega (arith, small (c .before), c .before .before .pre .0 .below)
 
 returns : tie.Need-returns
 returns c =
     let s = c .before .before in
     let z = s .args .z in
-    rounded-back (c .before .folded .result) (s .args .a) (s .args .r) (s .pre .3)
+    rounded-back (c .before .folded .result) (s .args .a) (s .args .r) (s .pre .1)
     (is-one (c .before) true (read-below z (s .fits .z) (c .if1 .taken)))
-    (omega (arith, size z (c .before .folded .result) (is-folded (c .before)), s .pre .1))
+    (omega (arith, size z (c .before .folded .result) (is-folded (c .before)), s .pre .0 .below))
 
 add-result : tie.Need-add-result
-add-result c = let s = c .before .before in record { fits = omega (arith, small (c .before), s .pre .0, s .pre .2) }
+add-result c = let s = c .before .before in record { fits = omega (arith, small (c .before), s .pre .0 .fits, s .pre .0 .most) }
 
 add-result-2 : tie.Need-add-result-2
-add-result-2 c = let s = c .before .before in record { fits = omega (arith, small (c .before), s .pre .0, s .pre .2) }
+add-result-2 c = let s = c .before .before in record { fits = omega (arith, small (c .before), s .pre .0 .fits, s .pre .0 .most) }
 
 returns-2 : tie.Need-returns-2
 returns-2 c =
@@ -72,9 +72,9 @@ returns-2 c =
     let n = c .before .folded .result in
     subst (λ (y : ℤ). Rounded y (s .args .a) (s .args .r) 1 (s .args .r + n / s .args .a + 1))
     (is-one (c .before) false (read-below z (s .fits .z) (c .if1 .left)))
-    (rounded-on n (s .args .a) (s .args .r) (s .pre .3))
+    (rounded-on n (s .args .a) (s .args .r) (s .pre .1))
 
-pub above-spec : {M : Type 1} → statement M
-above-spec =
+pub rounded-up-spec : {M : Type 1} → statement M
+rounded-up-spec =
     tie.close
     (tie.spec folded-requires div-on sub-result returns add-result add-result-2 returns-2)

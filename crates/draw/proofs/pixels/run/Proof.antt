@@ -7,10 +7,10 @@ use lib.ListN.{length}
 use Rattle.rules.specs.declared.Screen.{Screen}
 use Rattle.rules.specs.Sizes.{colourAt, depthAt}
 use Rattle.rules.proofs.Pixels.{sound-facts, width-le, colour-fits, depth-fits}
-use Rattle.draw.specs.Leaves.{LeafDone, RunAsked}
+use Rattle.draw.specs.Pixels.{PixelDone, RunAsked}
 use Rattle.draw.proofs.Running.{Turn, turn-first, turn-more, turn-last, length-now, on-screen, few-written, colour-from, depth-from}
-use Rattle.draw.proofs.leaves.run.Statement.{statement}
-use Rattle.draw.proofs.leaves.run.Tie as tie
+use Rattle.draw.proofs.pixels.run.Statement.{statement}
+use Rattle.draw.proofs.pixels.run.Tie as tie
 
 abbrev Inv-loop : tie.InvT-loop
 Inv-loop ram₀ t y from to colour depth v₀ written₀ i₀ count ram v written i =
@@ -79,14 +79,14 @@ cast-past c = omega (arith, short c)
 mul-past : tie.Need-mul-past Inv-loop μ-loop
 mul-past c = omega (arith, short c)
 
-add-leaf : tie.Need-add-leaf Inv-loop μ-loop
-add-leaf c = omega (arith, fits (c .before))
+add-pixel : tie.Need-add-pixel Inv-loop μ-loop
+add-pixel c = omega (arith, fits (c .before))
 
-add-leaf-2 : tie.Need-add-leaf-2 Inv-loop μ-loop
-add-leaf-2 c = omega (arith, fits (c .before))
+add-pixel-2 : tie.Need-add-pixel-2 Inv-loop μ-loop
+add-pixel-2 c = omega (arith, fits (c .before))
 
-leaf-requires : tie.Need-leaf-requires Inv-loop μ-loop
-leaf-requires c κs =
+pixel-requires : tie.Need-pixel-requires Inv-loop μ-loop
+pixel-requires c κs =
     let q = c .before .before .before .before .before .before .before in (
       fits (c .before) .0,
       fits (c .before) .1,
@@ -106,13 +106,13 @@ loop-again : tie.Need-loop-again Inv-loop μ-loop
 loop-again c =
     let a = c .before .before .before .before .before .before .before .before .before .before .before .args in
     let l = c .before .before .before .before .before .before .loop in
-    let f = c .before .before .before .leaf in
+    let f = c .before .before .before .pixel in
     let some = c .before .before .before .before .before .loop-test .taken in (
       omega (arith, some),
       λ s asked i j.
           turn-more (a .ram .now) s (a .t) (a .from) (a .y) (l .ram) (l .i) (l .v) (l .written) (l .inv .1 s asked i j) (a .to) asked some
           (f .result) (f .last .0) (c .tints-right .result)
-          (subst₂ (λ (m n : ℕ). LeafDone (l .ram) m n (l .v) (l .written) (f .result) (f .last .0))
+          (subst₂ (λ (m n : ℕ). PixelDone (l .ram) m n (l .v) (l .written) (f .result) (f .last .0))
           (colour-from s (a .from) (a .y) (l .i) i) (depth-from s (a .from) (a .y) (l .i) j) (f .ensures))
           (c .tints-right .ensures),
     )
@@ -138,9 +138,9 @@ run-spec =
     loop-holds
     cast-past
     mul-past
-    add-leaf
-    add-leaf-2
-    leaf-requires
+    add-pixel
+    add-pixel-2
+    pixel-requires
     tints-right-requires
     add-i
     loop-less

@@ -7,8 +7,8 @@ use borrow.Author.Tests.{le-leb, lt-leb}
 use Rattle.rules.specs.Sizes.{putHalf}
 use Rattle.rules.specs.Triangles.{topHalf}
 use borrow.Author.Needs.{needs}
-use Rattle.draw.proofs.leaves.leaf.Statement.{statement}
-use Rattle.draw.proofs.leaves.leaf.Tie as tie
+use Rattle.draw.proofs.pixels.pixel.Statement.{statement}
+use Rattle.draw.proofs.pixels.pixel.Tie as tie
 
 load-half-requires : tie.Need-load-half-requires
 load-half-requires c κs = search needs
@@ -51,8 +51,8 @@ returns-2 c =
           ∙ ap (putHalf (putHalf (a .ram .now) (a .depth) (a .v .depth / 65536)) (a .colour)) (k .ensures .0));
     }
 
-pub leaf-spec : {M : Type 1} → statement M
-leaf-spec =
+pub pixel-spec : {M : Type 1} → statement M
+pixel-spec =
     tie.close
     (tie.spec
     load-half-requires

@@ -11,18 +11,18 @@ use screen::sizes::colour_place;
 use screen::sizes::depth_place;
 ghost use Prim.Native.Nat.{_+_, _<_};
 ghost use lib.ListN.{length};
-ghost use Rattle.draw.specs.Leaves.{LeafDone, RunAsked, RunDone};
+ghost use Rattle.draw.specs.Pixels.{PixelDone, RunAsked, RunDone};
 
-// One covered pixel, written where its depth is at most the stored one. It answers how many were written, this one with the given number.
-pub fn leaf(ram: &mut [u8], colour: usize, depth: usize, v: Tints, written: u32) -> u32
+// One covered pixel, written where its depth is at most the stored one. It answers the number given, and one more where it was written.
+pub fn pixel(ram: &mut [u8], colour: usize, depth: usize, v: Tints, written: u32) -> u32
     requires { ⌜ (colour + 1 < length (now ram)) × (depth + 1 < length (now ram)) × (written < 640) ⌝ }
-    ensures { λ r. ⌜ LeafDone (now (ram .entry)) colour depth v written r (now (ram .exit)) ⌝ }
+    ensures { λ r. ⌜ PixelDone (now (ram .entry)) colour depth v written r (now (ram .exit)) ⌝ }
 {
     let z = v.depth / 65536;
     if load_half(ram, depth) < z {
         return written;
     }
-    // before the colour: after it, it costs registers
+    // before the colour: stored after it, the depth costs registers
     store_half(ram, depth, z);
     store_half(ram, colour, colour_of(v));
     written + 1
@@ -41,7 +41,7 @@ pub fn run(ram: &mut [u8], s: Screen, t: Triangle, y: u32, from: u32, to: u32) -
     let count = to - from;
     while i < count {
         let past = 2 * i as usize;
-        written = leaf(ram, colour + past, depth + past, v, written);
+        written = pixel(ram, colour + past, depth + past, v, written);
         v = tints_right(v, t);
         i += 1;
     }
