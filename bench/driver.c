@@ -162,29 +162,41 @@ static struct outcome {
     uint64_t covered, written;
 } outcomes[DRAWERS];
 
-void prepare(const char *name)
+/* Workloads of triangles of one size: so many, of so many pixels, whose box has
+ * at most so many times their pixels; 0 for any shape, -1 for not thin. */
+static const struct sized {
+    const char *name;
+    int32_t triangles, pixels, most;
+} sizes[] = {
+    {"small", 2000, 50, 32},
+    {"small_any", 2000, 50, 0},
+    {"small_box20", 2000, 50, 20},
+    {"small_box14", 2000, 50, 14},
+    {"small_box8", 2000, 50, 8},
+    {"small_stout", 2000, 50, -1},
+    {"middle", 200, 1000, 0},
+    {"middle_stout", 200, 1000, -1},
+};
+
+static int add_sized(const char *name)
 {
-    unsigned most;
-    set_screen(WIDTH, HEIGHT);
-    if (!strcmp(name, "small")) {
-        for (int k = 0; k < 2000; k++)
-            add_of_shape(50, 32);
-    } else if (!strcmp(name, "small_any")) {
-        for (int k = 0; k < 2000; k++)
-            add_of_shape(50, 0);
-    } else if (sscanf(name, "small_box%u", &most) == 1) {
-        for (int k = 0; k < 2000; k++)
-            add_of_shape(50, most);
-    } else if (!strcmp(name, "middle")) {
-        for (int k = 0; k < 200; k++)
-            add_of_shape(1000, 0);
-    } else if (!strcmp(name, "small_stout")) {
-        for (int k = 0; k < 2000; k++)
-            add_stout(50);
-    } else if (!strcmp(name, "middle_stout")) {
-        for (int k = 0; k < 200; k++)
-            add_stout(1000);
-    } else if (!strcmp(name, "full")) {
+    for (size_t k = 0; k < sizeof sizes / sizeof sizes[0]; k++) {
+        const struct sized *s = &sizes[k];
+        if (strcmp(name, s->name))
+            continue;
+        for (int32_t n = 0; n < s->triangles; n++)
+            if (s->most < 0)
+                add_stout(s->pixels);
+            else
+                add_of_shape(s->pixels, s->most);
+        return 1;
+    }
+    return 0;
+}
+
+static void add_other(const char *name)
+{
+    if (!strcmp(name, "full")) {
         /* The two halves of the screen, both ways of cutting it. */
         int32_t r = 8 * WIDTH, b = 8 * HEIGHT;
         add(0, 0, r, 0, 0, b);
@@ -213,6 +225,13 @@ void prepare(const char *name)
             triangles[k] = triangles[0];
         }
     }
+}
+
+void prepare(const char *name)
+{
+    set_screen(WIDTH, HEIGHT);
+    if (!add_sized(name))
+        add_other(name);
     for (int k = 0; k < DRAWERS; k++)
         outcomes[k].ram = room(ram_len);
 }

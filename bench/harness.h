@@ -40,7 +40,7 @@ void must_agree(const char *workload);
 /* One line: what a pass did. */
 void print_counts(void);
 
-/* Random numbers from a fixed seed. */
+/* Random numbers, from the seed above. */
 uint64_t next(void);
 int32_t between(int32_t low, int32_t high);
 

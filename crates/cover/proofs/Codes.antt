@@ -1,4 +1,4 @@
--- An edge's differences and its value as the machine computes them, in 64 bits, from vertices in range.
+-- An edge's differences and its value, tests of them against 0 and what `in_parts` reads, as the machine computes them in 64 bits.
 use Prim.Native.Nat.{ℕ, _≤_, _<_}
 use mathlib.Core.Path.{_≡_, sym, _∙_, ap, ap₂, subst}
 use mathlib.Core.Bool.{Bool, true, false}
@@ -73,6 +73,10 @@ read-above z f h = sym (above z) ∙ ap (ltZ (pos 0)) (sym (toZ-ofZ w64 z f)) �
 pub read-below : (z : ℤ) {b : Bool} → SFits w64 z → ltZ (toZ w64 (ofZ w64 z)) (pos 0) ≡ b → negative z ≡ b
 read-below z f h = sym (below z) ∙ ap (λ (k : ℤ). ltZ k (pos 0)) (sym (toZ-ofZ w64 z f)) ∙ h
 
+-- a test of a computed number against 0
+pub code-above : (k : Code w64) (t : T (fine k)) {b : Bool} → ltZ (pos 0) (toZ w64 (word-of k)) ≡ b → positive (meant k) ≡ b
+code-above k t h = sym (above (meant k)) ∙ ap (ltZ (pos 0)) (sym (reads-as k t)) ∙ h
+
 -- which of them say whether it is zero
 pub above-zero : (z : ℤ) → SFits w64 z → ltZ (pos 0) (toZ w64 (ofZ w64 z)) ≡ true → isZero z ≡ false
 above-zero z f h = positive-only z (read-above z f h) .1
@@ -88,7 +92,3 @@ pub scaled-read : (d : Code w64) (t : T (fine d)) {v w : ℤ} {n : ℕ} → v �
     → scaleOf (toZ w64 (word-of d)) *ℤ toZ w64 (ofZ w64 v) ≡ scaleOf (meant d) *ℤ w
 scaled-read d t {v} {n = n} e h l =
     ap₂ (λ (y z : ℤ). scaleOf y *ℤ z) (reads-as d t) (toZ-ofZ w64 v (fits-64 (subst (Within n) (sym e) h) l) ∙ e)
-
--- a test of a computed number against 0
-pub code-above : (k : Code w64) (t : T (fine k)) {b : Bool} → ltZ (pos 0) (toZ w64 (word-of k)) ≡ b → positive (meant k) ≡ b
-code-above k t h = sym (above (meant k)) ∙ ap (ltZ (pos 0)) (sym (reads-as k t)) ∙ h

@@ -53,6 +53,7 @@ pub fn first_touched(a: i32, b: i32, c: i32) -> u32
     requires { ⌜ (vertexInRange a ≡ true) × (vertexInRange b ≡ true) × (vertexInRange c ≡ true) ⌝ }
     ensures { λ r. ⌜ ((k : ℕ) → k < r → Before a b c k) ⌝ }
 {
+    // a number between two sample points counts as the later one
     let by = 8199 - SAMPLE_OFFSET;
     let low = least(raised(a, by), raised(b, by), raised(c, by));
     if low < 8192 {
@@ -66,6 +67,7 @@ pub fn past_touched(a: i32, b: i32, c: i32) -> u32
     requires { ⌜ (vertexInRange a ≡ true) × (vertexInRange b ≡ true) × (vertexInRange c ≡ true) ⌝ }
     ensures { λ r. ⌜ ((k : ℕ) → r ≤ k → Beyond a b c k) ⌝ }
 {
+    // and here as the earlier one, whose row is the last
     let by = 8200 - SAMPLE_OFFSET;
     let high = greatest(raised(a, by), raised(b, by), raised(c, by));
     if high < 8192 {

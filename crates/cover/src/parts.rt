@@ -6,7 +6,7 @@ ghost use lib.IntN.{natAbs, _*ℤ_};
 ghost use Rattle.cover.specs.Units.{Raisable, Rounded};
 ghost use Rattle.cover.specs.Side.{acrossOf, scaleOf};
 
-// The parts of a column, and of 640 columns.
+// UNIT as a signed number, and 640 times it.
 const SCALE: i64 = 67108864;
 
 const LEVEL_SCALE: i64 = 42949672960;

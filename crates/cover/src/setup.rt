@@ -15,11 +15,6 @@ ghost use Rattle.cover.specs.Side.{edgeFrom, edgeInRange, lossOf, rising
 // How far to the right and down in its pixel the sample point lies.
 pub const SAMPLE_OFFSET: i64 = 0;
 
-// The parts of a column, and of 640 columns.
-const SCALE: i64 = 67108864;
-
-const LEVEL_SCALE: i64 = 42949672960;
-
 // The edge's value at pixel (x, y).
 pub fn edge_value(x1: i32, y1: i32, x2: i32, y2: i32, x: u32, y: u32) -> i64
     requires { ⌜ (edgeInRange (edgeFrom x1 y1 x2 y2) ≡ true) × (x ≤ 640) × (y ≤ 512) ⌝ }

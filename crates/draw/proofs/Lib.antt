@@ -1,3 +1,4 @@
+-- The laws behind the functions' proofs.
 pub mod Affine
 pub mod Stretch
 pub mod Running

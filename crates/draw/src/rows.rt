@@ -22,7 +22,7 @@ fn lesser(a: u32, b: u32) -> u32
     b
 }
 
-// How many columns there are from `from` up to but not including `to`, by masks as 01 has it: each group's has a one for each of its own, and the ones are added.
+// The number of columns from `from` up to but not including `to`, as 01 counts: the ones of each group's mask, added.
 fn counted(from: u32, to: u32) -> u32
     requires { ⌜ (from ≤ to) × (to ≤ 640) ⌝ }
     ensures { λ r. ⌜ r ≡ howMany (inRun from to) to ⌝ }

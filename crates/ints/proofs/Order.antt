@@ -249,11 +249,6 @@ module _ {a b c : ℤ} where
       let ρ : List ℤ = a ∷ b ∷ c ∷ [] in
       le-of ρ (var 0) (var 2) (omega (arith, le-to ρ (var 0) (var 1) h, le-to ρ (var 1) (var 2) k))
 
-  pub ≤ℤ-<ℤ-trans : a ≤ℤ b → b <ℤ c → a <ℤ c
-  ≤ℤ-<ℤ-trans h k =
-      let ρ : List ℤ = a ∷ b ∷ c ∷ [] in
-      lt-of ρ (var 0) (var 2) (omega (arith, le-to ρ (var 0) (var 1) h, lt-to ρ (var 1) (var 2) k))
-
 module _ {a b : ℤ} where
   pub <ℤ→≤ℤ : a <ℤ b → a ≤ℤ b
   <ℤ→≤ℤ h = le-of (a ∷ b ∷ []) (var 0) (var 1) (omega (arith, lt-to (a ∷ b ∷ []) (var 0) (var 1) h))

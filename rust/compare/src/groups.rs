@@ -693,7 +693,8 @@ fn largest_edges(run: &mut Run, rng: &mut Rng) {
 
 /// Nearly the longest edges, placed so that their value at a pixel of the
 /// largest screen's last rows is -1, 0 or 1: the least that rounding summed
-/// over all rows could turn.
+/// over all rows could turn. Rounded up too far, it turns those with 1 or -1, by
+/// the edge's direction; rounded down, those with 0.
 fn long_edges(run: &mut Run, rng: &mut Rng) {
     let (screen, ram) = tight(20960);
     let in_range = |v: i64| (-8192..=8191).contains(&v);
@@ -702,9 +703,17 @@ fn long_edges(run: &mut Run, rng: &mut Rng) {
         let (short, value) = (rng.between(0, 300), turn % 3 - 1);
         let (dy, y1) = (16383 - short, -8192 + rng.between(0, short));
         let up = 8 * rng.between(470, 479) - y1;
-        let Some(inverse) = inverse(up, dy) else { continue };
+        let (divisor, inverse) = euclid(up, dy);
+        // A zero off the edge's ends needs a common divisor, the other values need none.
+        if (value == 0) == (divisor == 1) {
+            continue;
+        }
         // up * dx - left * dy is the value.
-        let dx = (value * inverse).rem_euclid(dy) - if rng.chance(2) { dy } else { 0 };
+        let dx = if value == 0 {
+            dy / divisor * rng.between(1 - divisor, divisor - 1)
+        } else {
+            (value * inverse).rem_euclid(dy) - if rng.chance(2) { dy } else { 0 }
+        };
         let left = (up * dx - value) / dy;
         let x1 = 8 * rng.between(0, 639) - left;
         if !in_range(x1) || !in_range(x1 + dx) {
@@ -719,15 +728,16 @@ fn long_edges(run: &mut Run, rng: &mut Rng) {
     }
 }
 
-/// The number that a makes 1 with, modulo n, if there is one.
-fn inverse(a: i64, n: i64) -> Option<i64> {
+/// The greatest common divisor of a and n, and what a is multiplied by to give
+/// it, modulo n.
+fn euclid(a: i64, n: i64) -> (i64, i64) {
     let (mut r, mut next, mut s, mut t) = (a % n, n, 1, 0);
     while next != 0 {
         let q = r / next;
         (r, next) = (next, r - q * next);
         (s, t) = (t, s - q * t);
     }
-    (r == 1).then(|| s.rem_euclid(n))
+    (r, s.rem_euclid(n))
 }
 
 /// "Two triangles that run along a common edge of non-zero length in opposite

@@ -1,4 +1,4 @@
--- Where the least raised number is below 8,192 nothing is claimed; else the rows by its whole pixels past 8,192 have their sample points before all three.
+-- Where the least raised number is below 8,192 nothing is claimed; else as many rows as it has whole pixels past 8,192 have their sample points before all three.
 use Prim.Native.Nat.{_+_, _*_, _-_, _<_}
 use native.Mathlib.Omega.{arith}
 use borrow.Author.Needs.{needs}

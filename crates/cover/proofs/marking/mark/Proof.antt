@@ -1,12 +1,10 @@
 -- The rising value, scaled, is within 64 bits, and its quotient has one rounding.
 use Prim.Native.Nat.{_+_}
-use mathlib.Core.Path.{_≡_, sym, _∙_, ap, ap₂, subst, subst₂}
+use mathlib.Core.Path.{_≡_, _∙_, ap, subst₂}
 use native.Mathlib.Omega.{arith}
-use lib.IntN.{ℤ, natAbs, _*ℤ_}
+use lib.IntN.{natAbs, _*ℤ_}
 use mir.Syntax.{w64}
 use mir.Val.{toZ, ofZ}
-use mir.ValLaws.{toZ-ofZ}
-use Rattle.ints.proofs.Bounds.{Within, fits-64}
 use Rattle.ints.proofs.Machine.{Code, word-of, need, reads-as, size-of}
 use Rattle.rules.specs.Triangles.{Edge, dy}
 use Rattle.cover.specs.Units.{raise, Rounded}

@@ -1,11 +1,10 @@
 -- The differences are within their range, so what a row adds, scaled, is within 64 bits, and its quotient has one rounding.
-use mathlib.Core.Path.{_≡_, refl, sym, _∙_, ap, ap₂, subst, subst₂}
+use mathlib.Core.Path.{_≡_, refl, sym, _∙_, ap, ap₂, subst₂}
 use native.Mathlib.Omega.{arith}
-use lib.IntN.{ℤ, natAbs, _*ℤ_}
+use lib.IntN.{natAbs, _*ℤ_}
 use mir.Syntax.{w64}
 use mir.Val.{toZ, ofZ}
-use mir.ValLaws.{toZ-ofZ}
-use Rattle.ints.proofs.Bounds.{Within, within-sub, fits-64}
+use Rattle.ints.proofs.Bounds.{Within, within-sub}
 use Rattle.ints.proofs.Machine.{Code, word-of, need, reads-as, size-of}
 use Rattle.rules.specs.Triangles.{Edge, dx, dy}
 use Rattle.cover.specs.Units.{lift, Rounded}
