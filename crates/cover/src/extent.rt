@@ -62,12 +62,12 @@ pub fn first_touched(a: i32, b: i32, c: i32) -> u32
     (low - 8192) / 8
 }
 
-// This row and all after it have theirs beyond them.
+// This row and all after it have their sample points beyond the three numbers.
 pub fn past_touched(a: i32, b: i32, c: i32) -> u32
     requires { ⌜ (vertexInRange a ≡ true) × (vertexInRange b ≡ true) × (vertexInRange c ≡ true) ⌝ }
     ensures { λ r. ⌜ ((k : ℕ) → r ≤ k → Beyond a b c k) ⌝ }
 {
-    // and here as the earlier one, whose row is the last
+    // a number between two sample points counts as the earlier one, whose row is the last before this
     let by = 8200 - SAMPLE_OFFSET;
     let high = greatest(raised(a, by), raised(b, by), raised(c, by));
     if high < 8192 {

@@ -6,9 +6,10 @@ ghost use lib.IntN.{natAbs, _*ℤ_};
 ghost use Rattle.cover.specs.Units.{Raisable, Rounded};
 ghost use Rattle.cover.specs.Side.{acrossOf, scaleOf};
 
-// UNIT as a signed number, and 640 times it.
+// UNIT as a signed number.
 const SCALE: i64 = 67108864;
 
+// 640 times that: the parts of all columns.
 const LEVEL_SCALE: i64 = 42949672960;
 
 // What one column adds to the rising value, and 1 where that is nothing.
