@@ -4,7 +4,7 @@ use mathlib.Core.Bool.{Bool, false, not}
 use mathlib.Core.List.{List}
 use lib.Dec.{eqb}
 use lib.ListN.{getD}
-use Rattle.rules.specs.Turns.{choose}
+use Rattle.rules.specs.Folds.{choose}
 use Rattle.instructions.specs.declared.Tree.{Tree}
 use Rattle.instructions.specs.declared.State.{State}
 use Rattle.instructions.specs.Tree.{leaves}

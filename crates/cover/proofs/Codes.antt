@@ -1,4 +1,4 @@
--- An edge's differences and its value, tests of them against 0 and what `in_parts` reads, as the machine computes them in 64 bits.
+-- An edge's differences and its value, tests of them against 0 and what `in_ticks` reads, as the machine computes them in 64 bits.
 use Prim.Native.Nat.{ℕ, _≤_, _<_}
 use mathlib.Core.Path.{_≡_, sym, _∙_, ap, ap₂, subst}
 use mathlib.Core.Bool.{Bool, true, false}
@@ -22,8 +22,8 @@ abbrev pub offsetC : Code w64
 offsetC = known (got-lit w64 sampleOffset tt)
 
 -- -1 - z
-abbrev pub turnedC : Code w64 → Code w64
-turnedC z = known (got-lit w64 18446744073709551615 tt) ⊟ z
+abbrev pub opposedC : Code w64 → Code w64
+opposedC z = known (got-lit w64 18446744073709551615 tt) ⊟ z
 
 abbrev pub eightC : Code w64
 eightC = known (got-lit w64 8 tt)
@@ -87,7 +87,7 @@ below-zero z f h = negative-only z (read-below z f h) .1
 pub neither-zero : (z : ℤ) → SFits w64 z → ltZ (pos 0) (toZ w64 (ofZ w64 z)) ≡ false → ltZ (toZ w64 (ofZ w64 z)) (pos 0) ≡ false → isZero z ≡ true
 neither-zero z f h k = neither z (read-above z f h) (read-below z f k)
 
--- what `in_parts` makes of a number and of dy, as it reads both
+-- what `in_ticks` makes of a number and of dy, as it reads both
 pub scaled-read : (d : Code w64) (t : T (fine d)) {v w : ℤ} {n : ℕ} → v ≡ w → Within n w → n < 9223372036854775808
     → scaleOf (toZ w64 (word-of d)) *ℤ toZ w64 (ofZ w64 v) ≡ scaleOf (meant d) *ℤ w
 scaled-read d t {v} {n = n} e h l =

@@ -9,11 +9,11 @@ use lib.Signed.{ltZ}
 use borrow.Author.Tests.{le-leb}
 use Rattle.ints.proofs.Bounds.{Within}
 use Rattle.rules.specs.declared.Triangle.{Triangle}
-use Rattle.rules.specs.Turns.{pixels}
+use Rattle.rules.specs.Folds.{pixels}
 use Rattle.rules.specs.Triangles.{Edge, edge1, edge2, edge3, edgeValue, sample}
 use Rattle.rules.specs.Numbers.{inSigned32, verticesInRange, edgeTooLarge, triangleTooLarge}
 use Rattle.rules.proofs.Choices.{not-leb}
-use Rattle.rules.proofs.Turns.{pixels-none}
+use Rattle.rules.proofs.Folds.{pixels-none}
 use Rattle.cover.specs.Side.{edgeInRange}
 use Rattle.cover.proofs.Along.{edge-within, value-within, edges-in-range, read, read-in-range}
 

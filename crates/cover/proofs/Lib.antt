@@ -3,7 +3,7 @@ pub mod Quotients
 pub mod Columns
 pub mod Mask
 pub mod Along
-pub mod Turning
+pub mod Crossing
 pub mod Meeting
 pub mod Codes
 pub mod Outside

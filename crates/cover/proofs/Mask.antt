@@ -9,10 +9,10 @@ use lib.Dec.{ltb, leb}
 use lib.Count.{ones, onesIn, ones-cat}
 use lib.Pow.{pow-mono, pow-add, shl-shr}
 use borrow.Author.Tests.{ltb-true, ltb-false, leb-true, leb-false}
-use Rattle.rules.specs.Turns.{bit, howMany}
+use Rattle.rules.specs.Folds.{bit, howMany}
 use Rattle.rules.proofs.Choices.{bit-le}
 use Rattle.cover.specs.Mask.{maskOf}
-use Rattle.cover.specs.Runs.{inRun}
+use Rattle.cover.specs.Spans.{inSpan}
 
 one : (b : Bool) → ones (bit b) ≡ bit b
 unfolding ones onesIn
@@ -53,26 +53,26 @@ not-yet n k h =
     let e : n - k ≡ 0 = omega arith in
     ap (λ (i : ℕ). 2 ^ i) e
 
-run-more : (lo hi n m : ℕ) → lo ≤ hi → (a b : Bool) → leb lo n ≡ a → ltb n hi ≡ b → m + 2 ^ (n - hi) ≡ 2 ^ (n - lo)
+span-more : (lo hi n m : ℕ) → lo ≤ hi → (a b : Bool) → leb lo n ≡ a → ltb n hi ≡ b → m + 2 ^ (n - hi) ≡ 2 ^ (n - lo)
     → (m * 2 + bit (a && b)) + 2 ^ (suc n - hi) ≡ 2 ^ (suc n - lo)
-run-more lo hi n m o true true p q h =
+span-more lo hi n m o true true p q h =
     let l = leb-true lo n p in
     let g = ltb-true n hi q in
     omega (arith, not-yet n hi (omega arith), not-yet (suc n) hi (omega arith), from-on n lo l)
-run-more lo hi n m o true false p q h =
+span-more lo hi n m o true false p q h =
     let l = leb-true lo n p in
     let g = ltb-false n hi q in
     omega (arith, from-on n hi g, from-on n lo l)
-run-more lo hi n m o false true p q h =
+span-more lo hi n m o false true p q h =
     let l = leb-false lo n p in
     omega (arith, not-yet n lo (omega arith), not-yet (suc n) lo (omega arith), not-yet n hi (omega arith), not-yet (suc n) hi (omega arith))
-run-more lo hi n m o false false p q h = absurd (omega (arith, leb-false lo n p, ltb-false n hi q))
+span-more lo hi n m o false false p q h = absurd (omega (arith, leb-false lo n p, ltb-false n hi q))
 
 -- the leaves from lo on, less those from hi on
-mask-run : (lo hi n : ℕ) → lo ≤ hi → maskOf (inRun lo hi) n + 2 ^ (n - hi) ≡ 2 ^ (n - lo)
+mask-span : (lo hi n : ℕ) → lo ≤ hi → maskOf (inSpan lo hi) n + 2 ^ (n - hi) ≡ 2 ^ (n - lo)
 unfolding maskOf
-mask-run lo hi zero o = omega (arith, not-yet 0 hi (omega arith), not-yet 0 lo (omega arith))
-mask-run lo hi (suc n) o = run-more lo hi n (maskOf (inRun lo hi) n) o (leb lo n) (ltb n hi) refl refl (mask-run lo hi n o)
+mask-span lo hi zero o = omega (arith, not-yet 0 hi (omega arith), not-yet 0 lo (omega arith))
+mask-span lo hi (suc n) o = span-more lo hi n (maskOf (inSpan lo hi) n) o (leb lo n) (ltb n hi) refl refl (mask-span lo hi n o)
 
 -- 2^16 shifted past the leaves before k has those from k on
 shifted : (k : ℕ) → k ≤ 16 → 65536 / 2 ^ k ≡ 2 ^ (16 - k)
@@ -82,5 +82,5 @@ shifted k h =
     ap (λ (i : ℕ). i / 2 ^ k) p ∙ shl-shr (2 ^ (16 - k)) k
 
 -- so the mask of the leaves from lo up to but not including hi is the difference of two shifts
-pub shifted-run : {lo hi : ℕ} → lo ≤ hi → hi ≤ 16 → maskOf (inRun lo hi) 16 + 65536 / 2 ^ hi ≡ 65536 / 2 ^ lo
-shifted-run {lo} {hi} o h = omega (arith, mask-run lo hi 16 o, shifted lo (omega arith), shifted hi h)
+pub shifted-span : {lo hi : ℕ} → lo ≤ hi → hi ≤ 16 → maskOf (inSpan lo hi) 16 + 65536 / 2 ^ hi ≡ 65536 / 2 ^ lo
+shifted-span {lo} {hi} o h = omega (arith, mask-span lo hi 16 o, shifted lo (omega arith), shifted hi h)

@@ -1,4 +1,4 @@
--- The three edges' insides meet in one run: it begins at the last mark where an inside begins and ends at the first one where an inside ends.
+-- The three edges' insides meet in one run: it begins at the last crossing where an inside begins and ends at the first one where an inside ends.
 use Prim.Native.Nat.{ℕ, _+_, _*_, _-_, _≤_, _<_}
 use mathlib.Core.Path.{_≡_, refl, sym, _∙_, ap, ap₂}
 use mathlib.Core.Bool.{Bool, true, false, not, _&&_, _||_, and-comm}
@@ -6,20 +6,20 @@ use native.Mathlib.Omega.{arith}
 use lib.Dec.{leb, ltb}
 use borrow.Author.Tests.{lt-ltb, le-ltb, ltb-true, ltb-false, leb-true, leb-false, le-leb, lt-leb}
 use Rattle.rules.specs.declared.Triangle.{Triangle}
-use Rattle.rules.specs.Turns.{choose}
+use Rattle.rules.specs.Folds.{choose}
 use Rattle.rules.specs.Triangles.{Edge, edge1, edge2, edge3, sample, inside, insideAll}
 use Rattle.rules.specs.Numbers.{verticesInRange}
 use Rattle.cover.specs.declared.Side.{Side}
 use Rattle.cover.specs.declared.Sides.{Sides}
-use Rattle.cover.specs.declared.Marks.{Marks}
+use Rattle.cover.specs.declared.Crossings.{Crossings}
 use Rattle.cover.specs.Units.{unit, raise}
-use Rattle.cover.specs.Side.{SideOf, SidesOf, MarkOf, MarksOf}
-use Rattle.cover.specs.Runs.{begun, ended, columnOf, RunOf}
+use Rattle.cover.specs.Side.{SideOf, SidesOf, CrossingOf, CrossingsOf}
+use Rattle.cover.specs.Spans.{begun, ended, columnOf, RowSpan}
 use Rattle.cover.proofs.Along.{EdgeWithin, edge-within, edges-in-range}
-use Rattle.cover.proofs.Turning.{mark-inside}
-use Rattle.cover.proofs.Columns.{run-beyond}
+use Rattle.cover.proofs.Crossing.{crossing-inside}
+use Rattle.cover.proofs.Columns.{span-beyond}
 
--- of two marks
+-- of two crossings
 
 lesser : (r a b : ℕ) → a ≤ b → leb r a ≡ leb r a && leb r b
 lesser r a b h = go (leb r a) refl
@@ -74,19 +74,19 @@ ended-ge m true g = go (ltb g m) refl
 
 -- of the three edges
 
-abbrev pub leastOf : Marks → Sides → ℕ
+abbrev pub leastOf : Crossings → Sides → ℕ
 leastOf m d = begun (m .p) (d .p .ends) (begun (m .q) (d .q .ends) (begun (m .r) (d .r .ends) raise))
 
-abbrev pub mostOf : Marks → Sides → ℕ → ℕ
+abbrev pub mostOf : Crossings → Sides → ℕ → ℕ
 mostOf m d w = ended (m .p) (d .p .ends) (ended (m .q) (d .q .ends) (ended (m .r) (d .r .ends) (raise - unit * w)))
 
-pub least-le : (m : Marks) (d : Sides) → leastOf m d ≤ raise
+pub least-le : (m : Crossings) (d : Sides) → leastOf m d ≤ raise
 least-le m d =
     let c = begun (m .r) (d .r .ends) raise in
     let b = begun (m .q) (d .q .ends) c in
     omega (arith, begun-le (m .r) (d .r .ends) raise, begun-le (m .q) (d .q .ends) c, begun-le (m .p) (d .p .ends) b)
 
-pub most-ge : (m : Marks) (d : Sides) (w : ℕ) → raise - unit * w ≤ mostOf m d w
+pub most-ge : (m : Crossings) (d : Sides) (w : ℕ) → raise - unit * w ≤ mostOf m d w
 most-ge m d w =
     let c = ended (m .r) (d .r .ends) (raise - unit * w) in
     let b = ended (m .q) (d .q .ends) c in
@@ -98,10 +98,10 @@ asked true l g = refl
 asked false true g = refl
 asked false false g = refl
 
-edge-asks : (e : Edge) → EdgeWithin e → (d : Side) (y m : ℕ) → y ≤ 480 → SideOf e d → MarkOf e y m → (x : ℕ) → x < 640
+edge-asks : (e : Edge) → EdgeWithin e → (d : Side) (y m : ℕ) → y ≤ 480 → SideOf e d → CrossingOf e y m → (x : ℕ) → x < 640
     → inside e (sample x y) ≡ (d .ends || leb raise (unit * x + m)) && (not (d .ends) || ltb (unit * x + m) raise)
 edge-asks e v d y m n o h x l =
-    mark-inside e v y n m h x l
+    crossing-inside e v y n m h x l
     ∙ ap (λ (b : Bool). choose b (ltb (unit * x + m) raise) (leb raise (unit * x + m))) (sym (o .is-ends))
     ∙ asked (d .ends) (leb raise (unit * x + m)) (ltb (unit * x + m) raise)
 
@@ -118,7 +118,7 @@ sorted true true true false true b₃ = refl
 sorted true true true true true true = refl
 sorted true true true true true false = refl
 
-module _ (t : Triangle) (y : ℕ) (v : verticesInRange t ≡ true) (i : y ≤ 480) (d : Sides) (m : Marks) (o : SidesOf t d) (h : MarksOf t y m) (w : ℕ) (k : w ≤ 640) where
+module _ (t : Triangle) (y : ℕ) (v : verticesInRange t ≡ true) (i : y ≤ 480) (d : Sides) (m : Crossings) (o : SidesOf t d) (h : CrossingsOf t y m) (w : ℕ) (k : w ≤ 640) where
   all-inside : (x : ℕ) → x < w → insideAll t (sample x y) ≡ leb raise (unit * x + leastOf m d) && ltb (unit * x + mostOf m d w) raise
   unfolding insideAll
   all-inside x l =
@@ -150,20 +150,20 @@ module _ (t : Triangle) (y : ℕ) (v : verticesInRange t ≡ true) (i : y ≤ 48
       (ended-at u (m .r) (d .r .ends) (raise - unit * w) ∙ ap (λ (u : Bool). (not (d .r .ends) || ltb (unit * x + m .r) raise) && u) last))))
 
   -- no column is both from the beginning on and before the end
-  pub run-none : leastOf m d ≤ mostOf m d w → RunOf t y w (record { from = 0; to = 0 })
-  run-none l =
+  pub span-none : leastOf m d ≤ mostOf m d w → RowSpan t y w (record { from = 0; to = 0 })
+  span-none l =
       record {
         ordered = omega arith;
         limited = omega arith;
-        run = λ x h. all-inside x h ∙ go x (leb raise (unit * x + leastOf m d)) refl ∙ sym (run-beyond 0 0 x (omega arith));
+        run = λ x h. all-inside x h ∙ go x (leb raise (unit * x + leastOf m d)) refl ∙ sym (span-beyond 0 0 x (omega arith));
       }
     where
       go : (x : ℕ) (u : Bool) → leb raise (unit * x + leastOf m d) ≡ u → u && ltb (unit * x + mostOf m d w) raise ≡ false
       go x true e = le-ltb (unit * x + mostOf m d w) raise (omega (arith, leb-true raise (unit * x + leastOf m d) e))
       go x false e = refl
 
-  pub run-some : mostOf m d w < leastOf m d → RunOf t y w (record { from = columnOf (leastOf m d); to = columnOf (mostOf m d w) })
-  run-some l =
+  pub span-some : mostOf m d w < leastOf m d → RowSpan t y w (record { from = columnOf (leastOf m d); to = columnOf (mostOf m d w) })
+  span-some l =
       record {
         ordered = omega arith;
         limited = omega (arith, most-ge m d w);

@@ -55,9 +55,9 @@ module _ {z : ℤ} {a r k m : ℕ} (h : Rounded z a r k m) where
   rounded-more j l = record { over = h .over; few = omega (arith, h .few, mul-le-mul-left a l); whole = h .whole }
 
   -- where z is u units and the roundings times a are less than one: u turns where the column's parts and the quotient reach what it is raised by
-  pub rounded-turns : (u : ℤ) → z ≡ pos unit *ℤ u → a * k < unit → 1 ≤ a → (x : ℕ)
+  pub rounded-crosses : (u : ℤ) → z ≡ pos unit *ℤ u → a * k < unit → 1 ≤ a → (x : ℕ)
       → nonNeg (u +ℤ pos (a * x)) ≡ leb r (unit * x + m)
-  rounded-turns u e less some x = go (nonNeg (u +ℤ pos (a * x))) refl
+  rounded-crosses u e less some x = go (nonNeg (u +ℤ pos (a * x))) refl
     where
       i : Is u (up u) (dn u)
       i = is-self u

@@ -1,4 +1,4 @@
--- What a side and a mark hold. The value of an edge, less 1 where its zeros are outside, is taken with the sign that makes it rise along a row. In a
+-- What a side and a crossing hold. The value of an edge, less 1 where its zeros are outside, is taken with the sign that makes it rise along a row. In a
 -- row it turns at one column: its value, divided by what a column adds, says which. A level edge does not turn: 640 times its value, with 1 added at
 -- each column, keeps its sign in every column of a screen.
 use Prim.Native.Nat.{ℕ, _+_, _*_, _≤_, _<_}
@@ -6,12 +6,12 @@ use mathlib.Core.Path.{_≡_}
 use mathlib.Core.Bool.{Bool, _||_, _&&_}
 use lib.IntN.{ℤ, pos, negsuc, natAbs, _-ℤ_, _*ℤ_}
 use Rattle.rules.specs.declared.Triangle.{Triangle}
-use Rattle.rules.specs.Turns.{choose}
+use Rattle.rules.specs.Folds.{choose}
 use Rattle.rules.specs.Triangles.{Edge, dx, dy, edge1, edge2, edge3, edgeValue, sample, keepsZero, positive, isZero, negative}
 use Rattle.rules.specs.Numbers.{vertexInRange}
 use Rattle.cover.specs.declared.Side.{Side}
 use Rattle.cover.specs.declared.Sides.{Sides}
-use Rattle.cover.specs.declared.Marks.{Marks}
+use Rattle.cover.specs.declared.Crossings.{Crossings}
 use Rattle.cover.specs.Units.{unit, raise, lift, Rounded}
 
 abbrev pub edgeFrom : ℤ → ℤ → ℤ → ℤ → Edge
@@ -39,7 +39,7 @@ acrossOf dy = choose (isZero dy) 1 (8 * natAbs dy)
 abbrev pub times : ℤ → ℕ
 times dy = choose (isZero dy) 640 1
 
--- how many times, in parts of a column
+-- how many times, in ticks of a column
 abbrev pub scaleOf : ℤ → ℤ
 scaleOf dy = pos (unit * times dy)
 
@@ -57,20 +57,20 @@ pub record SidesOf (t : Triangle) (d : Sides) : Type 0 where
   pub of3 : SideOf (edge3 t) (d .r)
 
 -- how far before column 0 the edge turns in row y; a rounding for each row so far
-abbrev pub MarkOf : Edge → ℕ → ℕ → Type 0
-MarkOf e y m = Rounded (scaleOf (dy e) *ℤ rising e 0 y) (acrossOf (dy e)) raise (y + 1) m
+abbrev pub CrossingOf : Edge → ℕ → ℕ → Type 0
+CrossingOf e y m = Rounded (scaleOf (dy e) *ℤ rising e 0 y) (acrossOf (dy e)) raise (y + 1) m
 
-pub record MarksOf (t : Triangle) (y : ℕ) (m : Marks) : Type 0 where
-  pub of1 : MarkOf (edge1 t) y (m .p)
-  pub of2 : MarkOf (edge2 t) y (m .q)
-  pub of3 : MarkOf (edge3 t) y (m .r)
+pub record CrossingsOf (t : Triangle) (y : ℕ) (m : Crossings) : Type 0 where
+  pub of1 : CrossingOf (edge1 t) y (m .p)
+  pub of2 : CrossingOf (edge2 t) y (m .q)
+  pub of3 : CrossingOf (edge3 t) y (m .r)
 
--- a mark that can be taken a row down, within 64 bits and not negative
+-- a crossing that can be taken a row down, within 64 bits and not negative
 pub record Addable (m down : ℕ) : Type 0 where
   pub low : lift ≤ m + down
   pub high : m + down < 18446744073709551616
 
-pub record CanGoBelow (m : Marks) (d : Sides) : Type 0 where
+pub record CanGoBelow (m : Crossings) (d : Sides) : Type 0 where
   pub first : Addable (m .p) (d .p .down)
   pub second : Addable (m .q) (d .q .down)
   pub third : Addable (m .r) (d .r .down)

@@ -3,11 +3,11 @@ use Prim.Native.Nat.{ℕ, _+_, _*_, _≤_}
 use mathlib.Core.Path.{_≡_}
 use lib.IntN.{ℤ, pos, natAbs, _+ℤ_}
 
--- a column, in parts
+-- a column, in ticks
 abbrev pub unit : ℕ
 unit = 67108864
 
--- what a mark and a step down are raised by
+-- what a crossing and a step down are raised by
 abbrev pub raise : ℕ
 raise = 9223372036854775808
 

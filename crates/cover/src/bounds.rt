@@ -5,7 +5,7 @@ ghost use mathlib.Core.Path.{_≡_};
 ghost use mathlib.Core.Bool.{true, _&&_};
 ghost use Prim.Native.Nat.{_≤_};
 ghost use lib.Dec.{ltb};
-ghost use Rattle.rules.specs.Turns.{pixels};
+ghost use Rattle.rules.specs.Folds.{pixels};
 ghost use Rattle.rules.specs.Numbers.{vertexInRange, verticesInRange, edgeTooLarge, triangleTooLarge};
 ghost use Rattle.cover.specs.Side.{edgeFrom, edgeInRange};
 

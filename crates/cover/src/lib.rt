@@ -1,14 +1,14 @@
 // Which pixels of a row a triangle covers, and which leaves of a group.
 pub mod bounds;
+pub mod crossed;
 pub mod extent;
-pub mod marking;
 pub mod masks;
-pub mod parts;
-pub mod runs;
 pub mod setup;
+pub mod spans;
+pub mod ticks;
 pub mod units;
 
-// One edge: what a row adds to its mark, raised by LIFT; `ends`: going right the inside ends.
+// One edge: what a row adds to its crossing, raised by LIFT; `ends`: going right the inside ends.
 pub struct Side {
     pub down: u64,
     pub ends: bool,
@@ -21,8 +21,8 @@ pub struct Sides {
     pub r: Side,
 }
 
-// How far before column 0 each edge turns in a row, in parts of a column, rounded up and raised by RAISE.
-pub struct Marks {
+// How far before column 0 each edge turns in a row, in ticks of a column, rounded up and raised by RAISE.
+pub struct Crossings {
     pub p: u64,
     pub q: u64,
     pub r: u64,

@@ -1,7 +1,7 @@
 // From vertices to sides.
 use crate::Side;
 use crate::Sides;
-use crate::parts::in_parts;
+use crate::ticks::in_ticks;
 use crate::units::LIFT;
 use rules::Triangle;
 ghost use mathlib.Core.Path.{_≡_};
@@ -76,7 +76,7 @@ fn side(x1: i32, y1: i32, x2: i32, y2: i32) -> Side
     let dx = x2 as i64 - x1 as i64;
     let dy = y2 as i64 - y1 as i64;
     Side {
-        down: in_parts(down(dx, dy), dy, LIFT),
+        down: in_ticks(down(dx, dy), dy, LIFT),
         ends: 0 < dy,
     }
 }

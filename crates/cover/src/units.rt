@@ -1,15 +1,15 @@
-// A column in parts, and quotients rounded up to whole numbers.
+// A column in ticks, and quotients rounded up to whole numbers.
 ghost use mathlib.Core.Path.{_≡_};
 ghost use Prim.Native.Nat.{_≤_};
 ghost use lib.IntN.{natAbs, pos, negsuc, _-ℤ_};
-ghost use Rattle.rules.specs.Turns.{choose};
+ghost use Rattle.rules.specs.Folds.{choose};
 ghost use Rattle.rules.specs.Triangles.{negative};
 ghost use Rattle.cover.specs.Units.{Raisable, Rounded};
 
-// A column, in parts: more than a step across times the rows of a screen, so that a rounding in each row turns no pixel.
+// A column, in ticks: more than a step across times the rows of a screen, so that a rounding in each row turns no pixel.
 pub const UNIT: u64 = 67108864;
 
-// What a mark is raised by, so that none is negative.
+// What a crossing is raised by, so that none is negative.
 pub const RAISE: u64 = 9223372036854775808;
 
 // What a step down is raised by.

@@ -5,12 +5,12 @@ use mathlib.Core.Logic.{_⊎_, inl, inr}
 use native.Mathlib.Omega.{arith}
 use lib.Count.{ones}
 use Rattle.cover.specs.Mask.{maskOf}
-use Rattle.cover.specs.Runs.{inRun}
-use Rattle.cover.proofs.Columns.{run-many}
+use Rattle.cover.specs.Spans.{inSpan}
+use Rattle.cover.proofs.Columns.{span-many}
 use Rattle.cover.proofs.Mask.{mask-ones}
 
-pub run-ones : (first past : ℕ) → first ≤ past → past ≤ 16 → ones (maskOf (inRun first past) 16) ≡ past - first
-run-ones first past o h = mask-ones (inRun first past) 16 ∙ run-many first past 16 o h
+pub span-ones : (first past : ℕ) → first ≤ past → past ≤ 16 → ones (maskOf (inSpan first past) 16) ≡ past - first
+span-ones first past o h = mask-ones (inSpan first past) 16 ∙ span-many first past 16 o h
 
 -- the part of the columns from a up to `to` that lies in a's group
 module _ {a to past : ℕ} (h : a < to) where

@@ -8,10 +8,10 @@ use native.Mathlib.Omega.{arith}
 use lib.ListN.{length}
 use Rattle.rules.specs.declared.Screen.{Screen}
 use Rattle.rules.specs.declared.Triangle.{Triangle}
-use Rattle.rules.specs.Turns.{upto, pixels}
+use Rattle.rules.specs.Folds.{upto, pixels}
 use Rattle.rules.specs.Sizes.{width, height}
 use Rattle.rules.specs.Triangles.{sample, insideAll, covered, written, pixelDrawn, rowDrawn, drawn}
-use Rattle.rules.proofs.Turns.{upto-none, upto-more, upto-still, howMany-none, howMany-same, pixels-more}
+use Rattle.rules.proofs.Folds.{upto-none, upto-more, upto-still, howMany-none, howMany-same, pixels-more}
 use Rattle.rules.proofs.Pixels.{Sound}
 use Rattle.rules.proofs.Drawing.{length-rows, written-rows}
 use Rattle.draw.specs.declared.Counts.{Counts}

@@ -8,9 +8,9 @@ use lib.ListN.{length}
 use native.Mathlib.Omega.{arith}
 use Rattle.rules.specs.declared.Screen.{Screen}
 use Rattle.rules.specs.declared.Triangle.{Triangle}
-use Rattle.rules.specs.Turns.{choose}
+use Rattle.rules.specs.Folds.{choose}
 use Rattle.rules.specs.Sizes.{width, height, sound}
-use Rattle.rules.specs.Numbers.{tooLong, clearNumber, triangleNumber, verticesInRange, triangleTooLarge}
+use Rattle.rules.specs.Numbers.{tooLong, screenNumber, triangleNumber, verticesInRange, triangleTooLarge}
 use Rattle.rules.specs.Triangles.{coveredPixels, writtenPixels, drawn}
 use Rattle.rules.specs.Calls.{Draws}
 use Rattle.rules.proofs.Choices.{accepted-no, accepted-yes}
@@ -28,14 +28,14 @@ neither false true r h = absurd (omega arith)
 neither false false r h = refl
 
 module _ (n : ℕ) (s : Screen) (t : Triangle) where
-  pub screen-first : clearNumber n s ≢ 0 → clearNumber n s ≡ triangleNumber n s t
-  unfolding clearNumber triangleNumber
+  pub screen-first : screenNumber n s ≢ 0 → screenNumber n s ≡ triangleNumber n s t
+  unfolding screenNumber triangleNumber
   screen-first h = sym (first-two (tooLong n) (not (sound n s)) _ h)
 
-  pub then-triangle : clearNumber n s ≡ 0
+  pub then-triangle : screenNumber n s ≡ 0
       → triangleNumber n s t
       ≡ choose (not (verticesInRange t)) 6 (choose (triangleTooLarge t (width (s .size)) (height (s .size))) 7 0)
-  unfolding clearNumber triangleNumber
+  unfolding screenNumber triangleNumber
   then-triangle h = neither (tooLong n) (not (sound n s)) _ h
 
   pub drawn-asks : triangleNumber n s t ≡ 0 → FrameAsked n s t

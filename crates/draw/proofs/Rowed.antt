@@ -8,13 +8,13 @@ use lib.ListN.{length}
 use borrow.Author.Tests.{lt-ltb}
 use Rattle.rules.specs.declared.Screen.{Screen}
 use Rattle.rules.specs.declared.Triangle.{Triangle}
-use Rattle.rules.specs.Turns.{upto, howMany}
+use Rattle.rules.specs.Folds.{upto, howMany}
 use Rattle.rules.specs.Sizes.{width}
 use Rattle.rules.specs.Triangles.{sample, insideAll, covered, written, pixelDrawn, rowDrawn}
-use Rattle.rules.proofs.Turns.{upto-add, upto-still, howMany-add, howMany-none, howMany-same}
+use Rattle.rules.proofs.Folds.{upto-add, upto-still, howMany-add, howMany-none, howMany-same}
 use Rattle.rules.proofs.Pixels.{On}
-use Rattle.cover.specs.Runs.{inRun}
-use Rattle.cover.proofs.Columns.{run-within, run-before, run-beyond, run-many}
+use Rattle.cover.specs.Spans.{inSpan}
+use Rattle.cover.proofs.Columns.{span-within, span-before, span-beyond, span-many}
 use Rattle.draw.specs.Pixels.{RunAsked, RunDone}
 use Rattle.draw.specs.Rows.{RowAsked, RowDone}
 use Rattle.draw.proofs.Stretch.{not-written, pixel-still}
@@ -56,7 +56,7 @@ module _ (m₀ : List ℕ) (s : Screen) (t : Triangle) (y a b : ℕ) (q : RowAsk
         row = q .row;
         ordered = q .ordered;
         limited = q .limited;
-        all = λ x h l. q .run x (omega (arith, q .limited)) ∙ run-within a b x h l;
+        all = λ x h l. q .run x (omega (arith, q .limited)) ∙ span-within a b x h l;
       }
 
   abbrev rest : ℕ
@@ -66,21 +66,21 @@ module _ (m₀ : List ℕ) (s : Screen) (t : Triangle) (y a b : ℕ) (q : RowAsk
   whole = omega (arith, q .ordered, q .limited)
 
   before : (i : ℕ) → i < a → covered t s i y ≡ false
-  before i h = q .run i (omega (arith, q .ordered, q .limited)) ∙ run-before a b i h
+  before i h = q .run i (omega (arith, q .ordered, q .limited)) ∙ span-before a b i h
 
   beyond : (i : ℕ) → i < rest → covered t s (a + ((b - a) + i)) y ≡ false
-  beyond i h = q .run (a + ((b - a) + i)) (omega (arith, whole)) ∙ run-beyond a b (a + ((b - a) + i)) (omega (arith, q .ordered))
+  beyond i h = q .run (a + ((b - a) + i)) (omega (arith, whole)) ∙ span-beyond a b (a + ((b - a) + i)) (omega (arith, q .ordered))
 
-  pub row-done : (c w : ℕ) (m : List ℕ) → c ≡ howMany (inRun a b) b → RunDone m₀ s t y a b w m
+  pub row-done : (c w : ℕ) (m : List ℕ) → c ≡ howMany (inSpan a b) b → RunDone m₀ s t y a b w m
       → RowDone m₀ s t y (record { covered = c; written = w }) m
   unfolding rowDrawn
   row-done c w m e d =
       record {
         covers =
             e
-            ∙ run-many a b b (q .ordered) (omega arith)
-            ∙ sym (run-many a b (width (s .size)) (q .ordered) (q .limited))
-            ∙ sym (howMany-same (λ x. covered t s x y) (inRun a b) (width (s .size)) (q .run));
+            ∙ span-many a b b (q .ordered) (omega arith)
+            ∙ sym (span-many a b (width (s .size)) (q .ordered) (q .limited))
+            ∙ sym (howMany-same (λ x. covered t s x y) (inSpan a b) (width (s .size)) (q .run));
         writes =
             d .counts
             ∙ middle-counts a (b - a) rest (λ x. written t s m₀ x y) (λ i h. not-written t s m₀ i y (before i h)) (λ i h. not-written t s m₀ _ y (beyond i h))

@@ -10,13 +10,13 @@ use lib.Dec.{leb}
 use lib.ListN.{length}
 use Rattle.rules.specs.declared.Screen.{Screen}
 use Rattle.rules.specs.declared.Triangle.{Triangle}
-use Rattle.rules.specs.Turns.{bit, howMany, choose}
-use Rattle.rules.specs.Sizes.{colourAt, depthAt, half, putHalf, putPixel}
+use Rattle.rules.specs.Folds.{bit, howMany, choose}
+use Rattle.rules.specs.Sizes.{colourAt, depthAt, loadHalf, storeHalf, putPixel}
 use Rattle.rules.specs.Triangles.{topHalf, packed, triangleDepth, triangleColour, written, pixelDrawn}
-use Rattle.rules.proofs.Turns.{upto-none, upto-more, howMany-none, howMany-more, howMany-le}
-use Rattle.rules.proofs.Places.{colour-in-area, depth-in-area}
+use Rattle.rules.proofs.Folds.{upto-none, upto-more, howMany-none, howMany-more, howMany-le}
+use Rattle.rules.proofs.Strips.{colour-in-area, depth-in-area}
 use Rattle.rules.proofs.Pixels.{Sound, On, sound-facts, width-le, colour-depth-apart}
-use Rattle.rules.proofs.Halves.{apart-sym, putHalf-comm}
+use Rattle.rules.proofs.Halves.{apart-sym, storeHalf-comm}
 use Rattle.draw.specs.declared.Tints.{Tints}
 use Rattle.draw.specs.Planes.{tintsAt, tintSteps, tintsMoved}
 use Rattle.draw.specs.Pixels.{passes, PixelDone, RunAsked, RunDone}
@@ -71,18 +71,18 @@ module _ (m₀ : List ℕ) (s : Screen) (t : Triangle) (x y : ℕ) where
         unfolding written triangleDepth
         judged =
             rw (q .all (x + k) (omega arith) (omega arith))
-            (ap (λ (z : Tints). leb (topHalf (z .depth)) (half m (depthAt s (x + k) y))) (u .is-tints))
+            (ap (λ (z : Tints). leb (topHalf (z .depth)) (loadHalf m (depthAt s (x + k) y))) (u .is-tints))
 
         -- the two half-words have no byte in common, so their order is free
         put-is : (p : Bool)
-            → choose p (putHalf (putHalf m (depthAt s (x + k) y) (topHalf (v .depth))) (colourAt s (x + k) y) (packed (v .red) (v .green) (v .blue))) m
+            → choose p (storeHalf (storeHalf m (depthAt s (x + k) y) (topHalf (v .depth))) (colourAt s (x + k) y) (packed (v .red) (v .green) (v .blue))) m
             ≡ choose p (putPixel s (x + k) y (triangleColour t (x + k) y) (triangleDepth t (x + k) y) m) m
         unfolding putPixel triangleColour triangleDepth
         put-is p =
-            ap (λ (z : Tints). choose p (putHalf (putHalf m (depthAt s (x + k) y) (topHalf (z .depth))) (colourAt s (x + k) y) (packed (z .red) (z .green) (z .blue))) m)
+            ap (λ (z : Tints). choose p (storeHalf (storeHalf m (depthAt s (x + k) y) (topHalf (z .depth))) (colourAt s (x + k) y) (packed (z .red) (z .green) (z .blue))) m)
             (u .is-tints)
             ∙ ap (λ (n : List ℕ). choose p n m)
-            (putHalf-comm m (depthAt s (x + k) y) (triangleDepth t (x + k) y) (colourAt s (x + k) y) (triangleColour t (x + k) y)
+            (storeHalf-comm m (depthAt s (x + k) y) (triangleDepth t (x + k) y) (colourAt s (x + k) y) (triangleColour t (x + k) y)
             (apart-sym (colour-depth-apart facts on-screen on-screen)))
 
         pub turn-more : (r : ℕ) (m′ : List ℕ) (v′ : Tints)

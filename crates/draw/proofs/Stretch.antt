@@ -8,9 +8,9 @@ use native.Mathlib.Omega.{arith}
 use lib.ListN.{length}
 use Rattle.rules.specs.declared.Screen.{Screen}
 use Rattle.rules.specs.declared.Triangle.{Triangle}
-use Rattle.rules.specs.Turns.{upto}
+use Rattle.rules.specs.Folds.{upto}
 use Rattle.rules.specs.Triangles.{covered, written, pixelDrawn}
-use Rattle.rules.proofs.Turns.{upto-keeps}
+use Rattle.rules.proofs.Folds.{upto-keeps}
 use Rattle.rules.proofs.Pixels.{Sound, On}
 use Rattle.rules.proofs.Drawing.{length-pixel, written-pixel}
 

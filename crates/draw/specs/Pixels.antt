@@ -6,19 +6,19 @@ use mathlib.Core.List.{List}
 use lib.Dec.{leb}
 use Rattle.rules.specs.declared.Screen.{Screen}
 use Rattle.rules.specs.declared.Triangle.{Triangle}
-use Rattle.rules.specs.Turns.{upto, bit, howMany, choose}
-use Rattle.rules.specs.Sizes.{width, height, sound, half, putHalf}
+use Rattle.rules.specs.Folds.{upto, bit, howMany, choose}
+use Rattle.rules.specs.Sizes.{width, height, sound, loadHalf, storeHalf}
 use Rattle.rules.specs.Triangles.{topHalf, packed, covered, written, pixelDrawn}
 use Rattle.draw.specs.declared.Tints.{Tints}
 
 abbrev pub passes : List ℕ → ℕ → Tints → Bool
-passes m depth v = leb (topHalf (v .depth)) (half m depth)
+passes m depth v = leb (topHalf (v .depth)) (loadHalf m depth)
 
 pub record PixelDone (m : List ℕ) (colour depth : ℕ) (v : Tints) (before answer : ℕ) (after : List ℕ) : Type 0 where
   pub counts : answer ≡ before + bit (passes m depth v)
   pub leaves : after
       ≡ choose (passes m depth v)
-      (putHalf (putHalf m depth (topHalf (v .depth))) colour (packed (v .red) (v .green) (v .blue)))
+      (storeHalf (storeHalf m depth (topHalf (v .depth))) colour (packed (v .red) (v .green) (v .blue)))
       m
 
 -- the pixels of row y from column a up to but not including b are on the screen, and covered

@@ -6,12 +6,12 @@ use mathlib.Core.Bool.{true, false}
 use mathlib.Core.List.{List}
 use Rattle.rules.specs.declared.Screen.{Screen}
 use Rattle.rules.specs.declared.Triangle.{Triangle}
-use Rattle.rules.specs.Turns.{howMany}
+use Rattle.rules.specs.Folds.{howMany}
 use Rattle.rules.specs.Sizes.{width, height, sound}
 use Rattle.rules.specs.Numbers.{verticesInRange}
 use Rattle.rules.specs.Triangles.{sample, insideAll, covered, written, rowDrawn, drawn, coveredPixels, writtenPixels}
 use Rattle.cover.specs.declared.Span.{Span}
-use Rattle.cover.specs.Runs.{inRun}
+use Rattle.cover.specs.Spans.{inSpan}
 use Rattle.draw.specs.declared.Counts.{Counts}
 
 -- the covered pixels of row y are those from column a up to but not including b
@@ -20,7 +20,7 @@ pub record RowAsked (n : ℕ) (s : Screen) (t : Triangle) (y a b : ℕ) : Type 0
   pub row : y < height (s .size)
   pub ordered : a ≤ b
   pub limited : b ≤ width (s .size)
-  pub run : (x : ℕ) → x < width (s .size) → covered t s x y ≡ inRun a b x
+  pub run : (x : ℕ) → x < width (s .size) → covered t s x y ≡ inSpan a b x
 
 pub record RowDone (m : List ℕ) (s : Screen) (t : Triangle) (y : ℕ) (answer : Counts) (after : List ℕ) : Type 0 where
   pub covers : answer .covered ≡ howMany (λ x. covered t s x y) (width (s .size))

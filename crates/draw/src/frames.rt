@@ -1,11 +1,11 @@
 // A frame, row by row.
 use crate::Counts;
 use crate::rows::row;
-use crate::spans::touched_rows;
-use cover::marking::marks_at;
-use cover::marking::marks_below;
-use cover::runs::run_of;
+use crate::touched::touched_rows;
+use cover::crossed::crossings_at;
+use cover::crossed::crossings_below;
 use cover::setup::sides;
+use cover::spans::row_span;
 use rules::Screen;
 use rules::Triangle;
 use screen::sizes::height;
@@ -23,14 +23,14 @@ pub fn frame(ram: &mut [u8], s: Screen, t: Triangle) -> Counts
     let rows = touched_rows(t, height(s.size));
     let end = rows.to;
     let mut y = rows.from;
-    let mut m = marks_at(t, y);
+    let mut m = crossings_at(t, y);
     let mut covered: u32 = 0;
     let mut written: u32 = 0;
     while y < end {
-        let run = run_of(m, d, w);
+        let run = row_span(m, d, w);
         let c = row(ram, s, t, y, run.from, run.to);
         // before the counts: after them it costs registers
-        m = marks_below(m, d);
+        m = crossings_below(m, d);
         covered += c.covered;
         written += c.written;
         y += 1;

@@ -3,7 +3,7 @@ pub mod frames;
 pub mod pixels;
 pub mod planes;
 pub mod rows;
-pub mod spans;
+pub mod touched;
 pub mod triangles;
 
 // The values of the four planes at a pixel.

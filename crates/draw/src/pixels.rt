@@ -7,8 +7,8 @@ use rules::Screen;
 use rules::Triangle;
 use screen::halves::load_half;
 use screen::halves::store_half;
-use screen::sizes::colour_place;
-use screen::sizes::depth_place;
+use screen::sizes::colour_at;
+use screen::sizes::depth_at;
 ghost use Prim.Native.Nat.{_+_, _<_};
 ghost use lib.ListN.{length};
 ghost use Rattle.draw.specs.Pixels.{PixelDone, RunAsked, RunDone};
@@ -33,8 +33,8 @@ pub fn run(ram: &mut [u8], s: Screen, t: Triangle, y: u32, from: u32, to: u32) -
     requires { ⌜ RunAsked (length (now ram)) s t y from to ⌝ }
     ensures { λ r. ⌜ RunDone (now (ram .entry)) s t y from to r (now (ram .exit)) ⌝ }
 {
-    let colour = colour_place(s, from, y);
-    let depth = depth_place(s, from, y);
+    let colour = colour_at(s, from, y);
+    let depth = depth_at(s, from, y);
     let mut v = tints_at(t, from, y);
     let mut written: u32 = 0;
     let mut i: u32 = 0;

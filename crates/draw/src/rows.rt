@@ -8,8 +8,8 @@ ghost use mathlib.Core.Path.{_≡_};
 ghost use mathlib.Core.Logic.{_⊎_};
 ghost use Prim.Native.Nat.{_≤_};
 ghost use lib.ListN.{length};
-ghost use Rattle.rules.specs.Turns.{howMany};
-ghost use Rattle.cover.specs.Runs.{inRun};
+ghost use Rattle.rules.specs.Folds.{howMany};
+ghost use Rattle.cover.specs.Spans.{inSpan};
 ghost use Rattle.draw.specs.Rows.{RowAsked, RowDone};
 
 // The lesser of two numbers.
@@ -25,7 +25,7 @@ fn lesser(a: u32, b: u32) -> u32
 // The number of columns from `from` up to but not including `to`, as 01 counts: the ones of each group's mask, added.
 fn counted(from: u32, to: u32) -> u32
     requires { ⌜ (from ≤ to) × (to ≤ 640) ⌝ }
-    ensures { λ r. ⌜ r ≡ howMany (inRun from to) to ⌝ }
+    ensures { λ r. ⌜ r ≡ howMany (inSpan from to) to ⌝ }
 {
     let mut a = from;
     let mut covered: u32 = 0;

@@ -5,14 +5,14 @@ use mathlib.Core.List.{List}
 use lib.ListN.{length, length-set}
 use lib.Dec.{eqb}
 use Rattle.rules.specs.declared.Screen.{Screen}
-use Rattle.rules.specs.Turns.{upto}
+use Rattle.rules.specs.Folds.{upto}
 use Rattle.rules.specs.Sizes.{width, height, putPixel}
 use Rattle.rules.specs.Calls.{cleared}
-use Rattle.rules.proofs.Turns.{upto-keeps}
-use Rattle.rules.proofs.Halves.{length-putHalf}
+use Rattle.rules.proofs.Folds.{upto-keeps}
+use Rattle.rules.proofs.Halves.{length-storeHalf}
 use Rattle.rules.proofs.Pixels.{length-putPixel}
 use Rattle.instructions.specs.declared.Tree.{Tree}
-use Rattle.instructions.specs.Moves.{putWord, wordRead, wordsRead, wordWritten, wordsWritten}
+use Rattle.instructions.specs.Moves.{storeWord, wordRead, wordsRead, wordWritten, wordsWritten}
 use Rattle.instructions.specs.Tree.{maskBit, treeSet, marked, treeIn, deepened, treeDepth, treeColour, treeVal, isPut, leafPut, treePut}
 use Rattle.instructions.specs.Halts.{wordAt}
 use Rattle.instructions.specs.Step.{Machine, withRegisters, withPlace, withFlags, withHalt, withScreen, withTree, afterResult, afterST, afterCALL, afterREAD, afterWRITE, afterSCRSET, afterCLS, afterTREESET, grown, afterTREEIN, afterTREEVAL, afterTREEPUT, effect, performed, isHalted, nextHalt, step}
@@ -22,9 +22,9 @@ use Rattle.instructions.proofs.Leaves.{length-each}
 use Rattle.instructions.proofs.Registers.{length-write}
 use Rattle.instructions.proofs.Effects.{effect-has}
 
-pub length-putWord : (l : List ℕ) (a v : ℕ) → length (putWord l a v) ≡ length l
-unfolding putWord
-length-putWord l a v = simp length-putHalf
+pub length-storeWord : (l : List ℕ) (a v : ℕ) → length (storeWord l a v) ≡ length l
+unfolding storeWord
+length-storeWord l a v = simp length-storeHalf
 
 length-turns : (f : ℕ → List ℕ → List ℕ) (n : ℕ) (l : List ℕ)
     → ((i : ℕ) (k : List ℕ) → length (f i k) ≡ length k)
@@ -37,7 +37,7 @@ length-wordsRead ram to from memory = length-turns (wordRead ram to from) 16 mem
 
 pub length-wordsWritten : (memory : List ℕ) (from to : ℕ) (ram : List ℕ) → length (wordsWritten memory from to ram) ≡ length ram
 unfolding wordsWritten wordWritten
-length-wordsWritten memory from to ram = length-turns (wordWritten memory from to) 16 ram (λ i k. length-putWord k _ _)
+length-wordsWritten memory from to ram = length-turns (wordWritten memory from to) 16 ram (λ i k. length-storeWord k _ _)
 
 pub length-cleared : (s : Screen) (colour depth : ℕ) (ram : List ℕ) → length (cleared s colour depth ram) ≡ length ram
 unfolding cleared
@@ -51,7 +51,7 @@ length-leafPut s t k ram =
     pick (λ (l : List ℕ). length l ≡ length ram) (isPut t k)
     (λ e. pick (λ (l : List ℕ). length l ≡ length ram) (t .held)
     (λ f. length-putPixel s _ _ _ _ ram)
-    (λ f. length-putHalf ram _ _))
+    (λ f. length-storeHalf ram _ _))
     (λ e. refl)
 
 pub length-treePut : (s : Screen) (t : Tree) (ram : List ℕ) → length (treePut s t ram) ≡ length ram

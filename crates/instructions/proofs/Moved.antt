@@ -7,10 +7,10 @@ use native.Mathlib.Omega.{arith}
 use native.Mathlib.Decide.{decLt}
 use lib.ListN.{length, getD, length-set}
 use lib.Seq.{getD-set-same, getD-set-other}
-use Rattle.rules.specs.Turns.{upto}
-use Rattle.rules.specs.Sizes.{putHalf}
-use Rattle.rules.proofs.Halves.{length-putHalf, half-put-same, half-put-other, byte-put-other}
-use Rattle.instructions.specs.Moves.{word, putWord, wordRead, wordsRead, wordWritten, wordsWritten}
+use Rattle.rules.specs.Folds.{upto}
+use Rattle.rules.specs.Sizes.{storeHalf}
+use Rattle.rules.proofs.Halves.{length-storeHalf, half-stored-same, half-stored-other, byte-stored-other}
+use Rattle.instructions.specs.Moves.{word, storeWord, wordRead, wordsRead, wordWritten, wordsWritten}
 
 -- the last of n + 1 turns, or one before it
 last : (i n : ℕ) → i < suc n → (i < n) ⊎ (i ≡ n)
@@ -53,40 +53,40 @@ module _ (ram : List ℕ) (to from : ℕ) (memory : List ℕ) where
 
 -- a word in RAM: what is stored is read back, and words with no byte in common are independent
 module _ (m : List ℕ) (a v : ℕ) where
-  length-putWord : length (putWord m a v) ≡ length m
-  unfolding putWord
-  length-putWord = length-putHalf (putHalf m a (v / 65536)) (a + 2) (v % 65536) ∙ length-putHalf m a (v / 65536)
+  length-storeWord : length (storeWord m a v) ≡ length m
+  unfolding storeWord
+  length-storeWord = length-storeHalf (storeHalf m a (v / 65536)) (a + 2) (v % 65536) ∙ length-storeHalf m a (v / 65536)
 
-  word-put-same : a + 3 < length m → word (putWord m a v) a ≡ v
-  unfolding word putWord
-  word-put-same h =
-      let n = putHalf m a (v / 65536) in
-      let k : length n ≡ length m = length-putHalf m a (v / 65536) in
+  word-stored-same : a + 3 < length m → word (storeWord m a v) a ≡ v
+  unfolding word storeWord
+  word-stored-same h =
+      let n = storeHalf m a (v / 65536) in
+      let k : length n ≡ length m = length-storeHalf m a (v / 65536) in
       ap₂ (λ (x y : ℕ). x * 65536 + y)
-      (half-put-other n (a + 2) (v % 65536) a (inr (omega arith)) ∙ half-put-same m a (v / 65536) (omega arith))
-      (half-put-same n (a + 2) (v % 65536) (omega (arith, k)))
+      (half-stored-other n (a + 2) (v % 65536) a (inr (omega arith)) ∙ half-stored-same m a (v / 65536) (omega arith))
+      (half-stored-same n (a + 2) (v % 65536) (omega (arith, k)))
       ∙ omega arith
 
-  word-put-other : (b : ℕ) → (a + 3 < b) ⊎ (b + 3 < a) → word (putWord m a v) b ≡ word m b
-  unfolding word putWord
-  word-put-other b o =
-      let n = putHalf m a (v / 65536) in
+  word-stored-other : (b : ℕ) → (a + 3 < b) ⊎ (b + 3 < a) → word (storeWord m a v) b ≡ word m b
+  unfolding word storeWord
+  word-stored-other b o =
+      let n = storeHalf m a (v / 65536) in
       ap₂ (λ (x y : ℕ). x * 65536 + y)
-      (half-put-other n (a + 2) (v % 65536) b (near (a + 2) b (omega arith)) ∙ half-put-other m a (v / 65536) b (near a b (omega arith)))
-      (half-put-other n (a + 2) (v % 65536) (b + 2) (near (a + 2) (b + 2) (omega arith))
-      ∙ half-put-other m a (v / 65536) (b + 2) (near a (b + 2) (omega arith)))
+      (half-stored-other n (a + 2) (v % 65536) b (near (a + 2) b (omega arith)) ∙ half-stored-other m a (v / 65536) b (near a b (omega arith)))
+      (half-stored-other n (a + 2) (v % 65536) (b + 2) (near (a + 2) (b + 2) (omega arith))
+      ∙ half-stored-other m a (v / 65536) (b + 2) (near a (b + 2) (omega arith)))
     where
       near : (x y : ℕ) → (a ≤ x) × (x ≤ a + 2) × (b ≤ y) × (y ≤ b + 2) → (x + 1 < y) ⊎ (y + 1 < x)
       near x y h = ⊎-elim (λ (l : a + 3 < b). inl (omega arith)) (λ (l : b + 3 < a). inr (omega arith)) o
 
-  byte-put-far : (b : ℕ) → (b < a) ⊎ (a + 4 ≤ b) → getD (putWord m a v) b 0 ≡ getD m b 0
-  unfolding putWord
-  byte-put-far b (inl h) =
-      byte-put-other (putHalf m a (v / 65536)) (a + 2) (v % 65536) b (λ e. omega arith) (λ e. omega arith)
-      ∙ byte-put-other m a (v / 65536) b (λ e. omega arith) (λ e. omega arith)
-  byte-put-far b (inr h) =
-      byte-put-other (putHalf m a (v / 65536)) (a + 2) (v % 65536) b (λ e. omega arith) (λ e. omega arith)
-      ∙ byte-put-other m a (v / 65536) b (λ e. omega arith) (λ e. omega arith)
+  byte-stored-far : (b : ℕ) → (b < a) ⊎ (a + 4 ≤ b) → getD (storeWord m a v) b 0 ≡ getD m b 0
+  unfolding storeWord
+  byte-stored-far b (inl h) =
+      byte-stored-other (storeHalf m a (v / 65536)) (a + 2) (v % 65536) b (λ e. omega arith) (λ e. omega arith)
+      ∙ byte-stored-other m a (v / 65536) b (λ e. omega arith) (λ e. omega arith)
+  byte-stored-far b (inr h) =
+      byte-stored-other (storeHalf m a (v / 65536)) (a + 2) (v % 65536) b (λ e. omega arith) (λ e. omega arith)
+      ∙ byte-stored-other m a (v / 65536) b (λ e. omega arith) (λ e. omega arith)
 
 -- the first n words of a WRITE
 pub record Stored (memory : List ℕ) (from to n : ℕ) (ram after : List ℕ) : Type 0 where
@@ -103,16 +103,16 @@ module _ (memory : List ℕ) (from to : ℕ) (ram : List ℕ) where
       let v = getD memory (from + n) 0 in
       let c : Stored memory from to n ram m = stored n (omega arith) in
       record {
-        same-length = length-putWord m (to + 4 * n) v ∙ c .same-length;
+        same-length = length-storeWord m (to + 4 * n) v ∙ c .same-length;
         words = λ i l.
             ⊎-elim
-            (λ (b : i < n). word-put-other m (to + 4 * n) v (to + 4 * i) (inr (omega arith)) ∙ c .words i b)
-            (λ (e : i ≡ n). rw e (word-put-same m (to + 4 * n) v (omega (arith, c .same-length))))
+            (λ (b : i < n). word-stored-other m (to + 4 * n) v (to + 4 * i) (inr (omega arith)) ∙ c .words i b)
+            (λ (e : i ≡ n). rw e (word-stored-same m (to + 4 * n) v (omega (arith, c .same-length))))
             (last i n l);
         others = λ b o.
             ⊎-elim
-            (λ (a : b < to). byte-put-far m (to + 4 * n) v b (inl (omega arith)) ∙ c .others b (inl a))
-            (λ (a : to + 4 * suc n ≤ b). byte-put-far m (to + 4 * n) v b (inr (omega arith)) ∙ c .others b (inr (omega arith)))
+            (λ (a : b < to). byte-stored-far m (to + 4 * n) v b (inl (omega arith)) ∙ c .others b (inl a))
+            (λ (a : to + 4 * suc n ≤ b). byte-stored-far m (to + 4 * n) v b (inr (omega arith)) ∙ c .others b (inr (omega arith)))
             o;
       }
 

@@ -3,7 +3,7 @@ use Prim.Native.Nat.{ℕ, suc}
 use mathlib.Core.Path.{_≡_, refl}
 use mathlib.Core.Bool.{Bool, true, false, _&&_, _||_, false≢true, true≢false}
 use native.Mathlib.Omega.{arith}
-use Rattle.rules.specs.Turns.{choose}
+use Rattle.rules.specs.Folds.{choose}
 
 module _ {A : Type 0} (P : A → Type 0) (b : Bool) {x y : A} where
   pub pick : (b ≡ true → P x) → (b ≡ false → P y) → P (choose b x y)

@@ -7,7 +7,7 @@ use mathlib.Core.List.{List}
 use native.Mathlib.Nat.{zero-add, suc-add}
 use native.Mathlib.Omega.{arith}
 use lib.Dec.{eqb}
-use Rattle.rules.specs.Turns.{bit, choose}
+use Rattle.rules.specs.Folds.{bit, choose}
 use Rattle.rules.proofs.Choices.{bit-le}
 use Rattle.instructions.specs.Halts.{wordAt}
 use Rattle.instructions.specs.Step.{Machine, withState, withHalt, performed, isHalted, nextHalt, step}

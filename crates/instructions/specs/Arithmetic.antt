@@ -8,7 +8,7 @@ use lib.IntN.{pos, _-ℤ_, _*ℤ_}
 use lib.Signed.{quotZ, shrZ}
 use lib.Bits.{bitAnd, bitOr, bitXor}
 use Rattle.ints.specs.Modulo.{mod32}
-use Rattle.rules.specs.Turns.{choose}
+use Rattle.rules.specs.Folds.{choose}
 use Rattle.instructions.specs.Opcodes.{LD, ST, LI, ADD, SUB, MUL, MULF, RECP, AND, OR, XOR, NOT, LSL, LSR, LSLI, LSRI, ASRI, DOT}
 use Rattle.instructions.specs.Words.{opcode, imm, inR2, inR3, keep32, signExtended, address, signed}
 

@@ -2,7 +2,7 @@
 use Prim.Native.Nat.{ℕ, _+_}
 use mathlib.Core.Bool.{Bool, true, _&&_, _||_, not}
 use lib.Dec.{leb, eqb}
-use Rattle.rules.specs.Turns.{choose}
+use Rattle.rules.specs.Folds.{choose}
 use Rattle.instructions.specs.declared.State.{State}
 use Rattle.instructions.specs.Opcodes.{JMP, JEQ, JEQL, JNE, JNEL, JLT, JLTL, JLE, JLEL, JGT, JGTL, JGE, JGEL}
 use Rattle.instructions.specs.Words.{opcode, address}

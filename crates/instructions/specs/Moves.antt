@@ -2,15 +2,15 @@
 use Prim.Native.Nat.{ℕ, _+_, _*_, _/_, _%_}
 use mathlib.Core.List.{List}
 use lib.ListN.{getD, set}
-use Rattle.rules.specs.Turns.{upto}
-use Rattle.rules.specs.Sizes.{half, putHalf}
+use Rattle.rules.specs.Folds.{upto}
+use Rattle.rules.specs.Sizes.{loadHalf, storeHalf}
 
 -- "words and half-words big-endian"
 unfoldable pub word : List ℕ → ℕ → ℕ
-word ram a = half ram a * 65536 + half ram (a + 2)
+word ram a = loadHalf ram a * 65536 + loadHalf ram (a + 2)
 
-unfoldable pub putWord : List ℕ → ℕ → ℕ → List ℕ
-putWord ram a v = putHalf (putHalf ram a (v / 65536)) (a + 2) (v % 65536)
+unfoldable pub storeWord : List ℕ → ℕ → ℕ → List ℕ
+storeWord ram a v = storeHalf (storeHalf ram a (v / 65536)) (a + 2) (v % 65536)
 
 -- "READ copies 16 words from the RAM byte address in r2 to the data address in r1"
 unfoldable pub wordRead : List ℕ → ℕ → ℕ → ℕ → List ℕ → List ℕ
@@ -21,7 +21,7 @@ wordsRead ram to from memory = upto (wordRead ram to from) 16 memory
 
 -- "WRITE the other way (house)": from the data address in r1 to the RAM byte address in r2
 unfoldable pub wordWritten : List ℕ → ℕ → ℕ → ℕ → List ℕ → List ℕ
-wordWritten memory from to i ram = putWord ram (to + 4 * i) (getD memory (from + i) 0)
+wordWritten memory from to i ram = storeWord ram (to + 4 * i) (getD memory (from + i) 0)
 
 unfoldable pub wordsWritten : List ℕ → ℕ → ℕ → List ℕ → List ℕ
 wordsWritten memory from to ram = upto (wordWritten memory from to) 16 ram

@@ -5,7 +5,7 @@ use mathlib.Core.List.{List}
 use lib.ListN.{length, replicate}
 use lib.Dec.{leb, ltb, eqb}
 use Rattle.rules.specs.declared.Screen.{Screen}
-use Rattle.rules.specs.Turns.{bit, choose}
+use Rattle.rules.specs.Folds.{bit, choose}
 use Rattle.rules.specs.Sizes.{sound}
 use Rattle.rules.specs.Numbers.{tooLong}
 use Rattle.instructions.specs.declared.State.{State}

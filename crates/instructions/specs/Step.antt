@@ -5,7 +5,7 @@ use mathlib.Core.List.{List}
 use lib.ListN.{length, set}
 use lib.Dec.{eqb}
 use Rattle.rules.specs.declared.Screen.{Screen}
-use Rattle.rules.specs.Turns.{choose}
+use Rattle.rules.specs.Folds.{choose}
 use Rattle.rules.specs.Calls.{cleared}
 use Rattle.instructions.specs.declared.State.{State}
 use Rattle.instructions.specs.declared.Tree.{Tree}

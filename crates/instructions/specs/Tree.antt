@@ -5,8 +5,8 @@ use mathlib.Core.List.{List, [], _∷_}
 use lib.ListN.{getD}
 use lib.Dec.{ltb, eqb}
 use Rattle.rules.specs.declared.Screen.{Screen}
-use Rattle.rules.specs.Turns.{upto, choose}
-use Rattle.rules.specs.Sizes.{width, height, colourAt, depthAt, half, putHalf, putPixel}
+use Rattle.rules.specs.Folds.{upto, choose}
+use Rattle.rules.specs.Sizes.{width, height, colourAt, depthAt, loadHalf, storeHalf, putPixel}
 use Rattle.rules.specs.Triangles.{topHalf, positive, negative}
 use Rattle.instructions.specs.declared.Tree.{Tree}
 use Rattle.instructions.specs.Words.{keep32, signed}
@@ -91,7 +91,7 @@ deepened a b t = record {
 
 -- leaf k's pixel has the tree's row, and its column is k to the right of the tree's
 abbrev pub storedDepth : Screen → List ℕ → Tree → ℕ → ℕ
-storedDepth s ram t k = half ram (depthAt s (t .column + k) (t .row))
+storedDepth s ram t k = loadHalf ram (depthAt s (t .column + k) (t .row))
 
 -- "and, where it is above the stored depth, clears I and sets O"
 abbrev pub tooDeep : Screen → List ℕ → ℕ → ℕ → Tree → ℕ → Bool
@@ -145,7 +145,7 @@ leafPut s t k ram =
     choose (isPut t k)
     (choose (t .held)
     (putPixel s (t .column + k) (t .row) (leafColour t k) (leafDepth t k) ram)
-    (putHalf ram (colourAt s (t .column + k) (t .row)) (leafColour t k)))
+    (storeHalf ram (colourAt s (t .column + k) (t .row)) (leafColour t k)))
     ram
 
 unfoldable pub treePut : Screen → Tree → List ℕ → List ℕ

@@ -6,7 +6,7 @@ use lib.Dec.{ltb, eqb}
 use lib.IntN.{ℤ}
 use mir.Syntax.{w32}
 use mir.Val.{toZ}
-use Rattle.rules.specs.Turns.{choose}
+use Rattle.rules.specs.Folds.{choose}
 
 -- "Opcode in bits 31..26", "r1 is bits 25..21, r2 20..16, r3 15..11, imm 15..0"
 abbrev pub opcode : ℕ → ℕ

@@ -4,7 +4,7 @@ use screen::halves::store_half;
 ghost use Prim.Native.Nat.{_+_, _≤_, _<_};
 ghost use mathlib.Core.Path.{_≡_};
 ghost use lib.ListN.{length};
-ghost use Rattle.instructions.specs.Moves.{word, putWord, wordsRead, wordsWritten};
+ghost use Rattle.instructions.specs.Moves.{word, storeWord, wordsRead, wordsWritten};
 
 const WORDS: usize = 16;
 
@@ -19,7 +19,7 @@ pub fn load_word(ram: &[u8], a: usize) -> u32
 // Stores the word `v` at `a`, big-endian.
 pub fn store_word(ram: &mut [u8], a: usize, v: u32)
     requires { ⌜ a + 3 < length (now ram) ⌝ }
-    ensures { λ _. ⌜ now (ram .exit) ≡ putWord (now (ram .entry)) a v ⌝ }
+    ensures { λ _. ⌜ now (ram .exit) ≡ storeWord (now (ram .entry)) a v ⌝ }
 {
     store_half(ram, a, v / 65536);
     store_half(ram, a + 2, v % 65536);

@@ -12,7 +12,7 @@ use Rattle.rules.specs.declared.Screen.{Screen}
 use Rattle.rules.specs.declared.Triangle.{Triangle}
 use Rattle.rules.specs.Sizes.{width, height}
 use Rattle.rules.specs.Triangles.{Point, edge1, edge2, edge3, dx, dy, edgeValue, positive, sample, covered, coveredPixels}
-use Rattle.rules.proofs.Turns.{pixels-none}
+use Rattle.rules.proofs.Folds.{pixels-none}
 use Rattle.order.specs.Order.{Side, first, second, third, side}
 use Rattle.order.specs.Area.{doubledArea}
 use Rattle.order.proofs.Sides.{within, inside-is, inside-side}

@@ -10,18 +10,18 @@ use lib.ListN.{length}
 use Rattle.rules.specs.declared.Screen.{Screen}
 use Rattle.rules.specs.declared.Triangle.{Triangle}
 use Rattle.rules.specs.declared.Drawn.{Drawn}
-use Rattle.rules.specs.Turns.{choose}
-use Rattle.rules.specs.Sizes.{width, height, colourAt, sound, half}
+use Rattle.rules.specs.Folds.{choose}
+use Rattle.rules.specs.Sizes.{width, height, colourAt, sound, loadHalf}
 use Rattle.rules.specs.Triangles.{written, triangleColour, triangleDepth, drawn}
-use Rattle.rules.specs.Numbers.{tooLong, clearNumber, triangleNumber}
+use Rattle.rules.specs.Numbers.{tooLong, screenNumber, triangleNumber}
 use Rattle.rules.specs.Calls.{Clears, Draws, accepted, cleared}
 use Rattle.rules.proofs.Choices.{accepted-no}
 use Rattle.order.specs.Pointwise.{Painted}
 use Rattle.order.proofs.Order.{accepted-sound, accepted-drawn}
 use Rattle.order.proofs.Pointwise.{drawn-pointwise, cleared-pointwise, painted-colour}
 
-clear-sound : (n : ℕ) (s : Screen) → clearNumber n s ≡ 0 → sound n s ≡ true
-unfolding clearNumber
+clear-sound : (n : ℕ) (s : Screen) → screenNumber n s ≡ 0 → sound n s ≡ true
+unfolding screenNumber
 clear-sound n s e = go (tooLong n) (sound n s) e
   where
     go : (a b : Bool) → _≡_ {A = ℕ} (choose a 3 (choose (not b) 5 0)) 0 → b ≡ true
@@ -46,11 +46,11 @@ module _ {m after : List ℕ} {s : Screen} {t : Triangle} {r : Drawn} (d : Draws
 
 module _ {m after : List ℕ} {s : Screen} {colour depth n : ℕ} (d : Clears m s colour depth n after) where
   pub clear-refused : n ≢ 0 → after ≡ m
-  clear-refused h = d .leaves ∙ accepted-no (clearNumber (length m) s) (cleared s colour depth m) m (λ e. h (d .answers ∙ e))
+  clear-refused h = d .leaves ∙ accepted-no (screenNumber (length m) s) (cleared s colour depth m) m (λ e. h (d .answers ∙ e))
 
   pub clear-paints : n ≡ 0 → Painted s (λ x y. true) (λ x y. colour) (λ x y. depth) m after
   clear-paints e =
-      let z : clearNumber (length m) s ≡ 0 = sym (d .answers) ∙ e in
+      let z : screenNumber (length m) s ≡ 0 = sym (d .answers) ∙ e in
       subst (Painted s (λ x y. true) (λ x y. colour) (λ x y. depth) m)
       (sym (d .leaves ∙ ap (λ k. accepted k (cleared s colour depth m) m) z))
       (cleared-pointwise s m (clear-sound (length m) s z) colour depth)
@@ -69,7 +69,7 @@ pub clear-then-draw : {m k l : List ℕ} {s : Screen} {colour depth n : ℕ} {t 
     → (x y : ℕ)
     → x < width (s .size)
     → y < height (s .size)
-    → half l (colourAt s x y) ≡ choose (written t s k x y) (triangleColour t x y) colour
+    → loadHalf l (colourAt s x y) ≡ choose (written t s k x y) (triangleColour t x y) colour
 clear-then-draw {s = s} {colour} {t = t} c d p q x y h v =
     painted-colour (draw-paints d q) x y h v
     ∙ ap (choose (written t s _ x y) (triangleColour t x y)) (painted-colour (clear-paints c p) x y h v)

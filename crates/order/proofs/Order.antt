@@ -13,8 +13,8 @@ use borrow.Author.Tests.{le-leb, lt-leb}
 use Rattle.rules.specs.declared.Screen.{Screen}
 use Rattle.rules.specs.declared.Triangle.{Triangle}
 use Rattle.rules.specs.declared.Drawn.{Drawn}
-use Rattle.rules.specs.Turns.{choose}
-use Rattle.rules.specs.Sizes.{sound, half}
+use Rattle.rules.specs.Folds.{choose}
+use Rattle.rules.specs.Sizes.{sound, loadHalf}
 use Rattle.rules.specs.Triangles.{covered, triangleColour, triangleDepth, drawn}
 use Rattle.rules.specs.Numbers.{tooLong, triangleNumber}
 use Rattle.rules.specs.Calls.{accepted, Draws}
@@ -159,7 +159,7 @@ module _ (s : Screen) (m : List ℕ) (h : sound (length m) s ≡ true) where
   length-after a b = length-drawn b s (drawn a s m) ∙ length-drawn a s m
 
   pub either-order : (a b : Triangle) → SameInBothOrders a b s m ↔ Compatible a b s m
-  unfolding half
+  unfolding loadHalf
   either-order a b = (to, from)
     where
       to : SameInBothOrders a b s m → Compatible a b s m

@@ -8,8 +8,8 @@ use mathlib.Core.List.{List}
 use lib.ListN.{length, getD}
 use Rattle.rules.specs.declared.Screen.{Screen}
 use Rattle.rules.specs.declared.Triangle.{Triangle}
-use Rattle.rules.specs.Turns.{choose}
-use Rattle.rules.specs.Sizes.{width, height, sound, colourAt, depthAt, half}
+use Rattle.rules.specs.Folds.{choose}
+use Rattle.rules.specs.Sizes.{width, height, sound, colourAt, depthAt, loadHalf}
 use Rattle.rules.specs.Triangles.{written, triangleColour, triangleDepth, drawn}
 use Rattle.rules.specs.Calls.{cleared}
 use Rattle.rules.proofs.Halves.{joined, joined-split}
@@ -104,19 +104,19 @@ module _
     on : On s x y
     on = record { across = a; down = b }
 
-    pub painted-colour : half after (colourAt s x y) ≡ choose (picked x y) (colour x y) (half m (colourAt s x y))
-    unfolding half
+    pub painted-colour : loadHalf after (colourAt s x y) ≡ choose (picked x y) (colour x y) (loadHalf m (colourAt s x y))
+    unfolding loadHalf
     painted-colour = ap (λ c. joined (c .colour)) (to-cells s picked colour depth m p x y on) ∙ go (picked x y)
       where
-        go : (t : Bool) → joined (new s picked colour depth m x y t .colour) ≡ choose t (colour x y) (half m (colourAt s x y))
+        go : (t : Bool) → joined (new s picked colour depth m x y t .colour) ≡ choose t (colour x y) (loadHalf m (colourAt s x y))
         go true = joined-split (colour x y)
         go false = refl
 
-    pub painted-depth : half after (depthAt s x y) ≡ choose (picked x y) (depth x y) (half m (depthAt s x y))
-    unfolding half
+    pub painted-depth : loadHalf after (depthAt s x y) ≡ choose (picked x y) (depth x y) (loadHalf m (depthAt s x y))
+    unfolding loadHalf
     painted-depth = ap (λ c. joined (c .depth)) (to-cells s picked colour depth m p x y on) ∙ go (picked x y)
       where
-        go : (t : Bool) → joined (new s picked colour depth m x y t .depth) ≡ choose t (depth x y) (half m (depthAt s x y))
+        go : (t : Bool) → joined (new s picked colour depth m x y t .depth) ≡ choose t (depth x y) (loadHalf m (depthAt s x y))
         go true = joined-split (depth x y)
         go false = refl
 

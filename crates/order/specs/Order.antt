@@ -7,14 +7,14 @@ use mathlib.Core.Bool.{true}
 use mathlib.Core.List.{List}
 use Rattle.rules.specs.declared.Screen.{Screen}
 use Rattle.rules.specs.declared.Triangle.{Triangle}
-use Rattle.rules.specs.Sizes.{depthAt, half}
+use Rattle.rules.specs.Sizes.{depthAt, loadHalf}
 use Rattle.rules.specs.Triangles.{Edge, edge1, edge2, edge3, covered, triangleColour, triangleDepth, drawn}
 
 abbrev pub SameInBothOrders : Triangle → Triangle → Screen → List ℕ → Type 0
 SameInBothOrders a b s m = drawn b s (drawn a s m) ≡ drawn a s (drawn b s m)
 
 abbrev pub storedDepth : List ℕ → Screen → ℕ → ℕ → ℕ
-storedDepth m s x y = half m (depthAt s x y)
+storedDepth m s x y = loadHalf m (depthAt s x y)
 
 -- a covered pixel is one of the screen: no bound on x and y is missing here
 abbrev pub Compatible : Triangle → Triangle → Screen → List ℕ → Type 0

@@ -6,7 +6,7 @@ use mathlib.Core.Bool.{Bool, true, false, not}
 use native.Mathlib.Omega.{arith}
 use lib.Dec.{leb, ltb}
 use borrow.Author.Tests.{leb-true, leb-false, lt-ltb, le-ltb, eq-eqb, ne-eqb}
-use Rattle.rules.specs.Turns.{bit}
+use Rattle.rules.specs.Folds.{bit}
 use Rattle.rules.specs.Calls.{accepted}
 
 pub bit-le : (b : Bool) → bit b ≤ 1

@@ -13,11 +13,11 @@ use borrow.Author.Tests.{ltb-true}
 use Rattle.ints.proofs.Modulo.{mod32-lt}
 use Rattle.rules.specs.declared.Screen.{Screen}
 use Rattle.rules.specs.declared.Triangle.{Triangle}
-use Rattle.rules.specs.Turns.{upto, choose}
-use Rattle.rules.specs.Sizes.{width, height, half, putPixel}
+use Rattle.rules.specs.Folds.{upto, choose}
+use Rattle.rules.specs.Sizes.{width, height, loadHalf, putPixel}
 use Rattle.rules.specs.Triangles.{planeAt, topHalf, packed, covered, written, triangleColour, triangleDepth, pixelDrawn, rowDrawn, drawn}
 use Rattle.rules.specs.Calls.{cleared}
-use Rattle.rules.proofs.Turns.{upto-keeps}
+use Rattle.rules.proofs.Folds.{upto-keeps}
 use Rattle.rules.proofs.Halves.{joined}
 use Rattle.rules.proofs.Pixels.{On, Other, Sound, and-l, and-r, Cell, cell, painted, length-putPixel}
 use Rattle.rules.proofs.Memory.{Touched, Only, Row, Rows, touched-same, touched-put, row-of-steps, rows-of-steps}
@@ -71,7 +71,7 @@ merged t s x y c =
 pub merged-cell : (t : Triangle) (s : Screen) (m : List ℕ) (x y : ℕ)
     → merged t s x y (cell s m x y)
     ≡ choose (written t s m x y) (painted (triangleColour t x y) (triangleDepth t x y)) (cell s m x y)
-unfolding merged written half
+unfolding merged written loadHalf
 merged-cell t s m x y = refl
 
 module _ {n : ℕ} {s : Screen} (k : Sound n s) (t : Triangle) where
@@ -116,7 +116,7 @@ module _ {n : ℕ} {s : Screen} (k : Sound n s) (colour depth : ℕ) where
 -- whether a pixel is written, while others are drawn
 module _ (t : Triangle) {s : Screen} {g : ℕ → ℕ → Cell → Cell} {D : ℕ → ℕ → Type 0} {l m : List ℕ} where
   pub written-kept : {x y : ℕ} → Touched s g D l m → On s x y → ¬ D x y → written t s m x y ≡ written t s l x y
-  unfolding written half
+  unfolding written loadHalf
   written-kept {x} {y} c p d =
       ap (λ z. covered t s x y && leb (triangleDepth t x y) (joined (z .depth))) (c .kept p d)
 

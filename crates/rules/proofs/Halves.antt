@@ -1,4 +1,4 @@
--- Laws of half and putHalf: what is stored is read back, and half-words with no byte in common are independent. A half-word is two
+-- Laws of half and storeHalf: what is stored is read back, and half-words with no byte in common are independent. A half-word is two
 -- bytes, so each law is the law of one store, twice.
 use Prim.Native.Nat.{ℕ, _+_, _*_, _/_, _%_, _<_}
 use mathlib.Core.Path.{_≡_, refl, sym, _∙_, ap}
@@ -9,7 +9,7 @@ use native.Mathlib.Nat.{div-add-mod'}
 use native.Mathlib.Decide.{decLt}
 use lib.ListN.{length, getD, set, length-set}
 use lib.Seq.{getD-set-same, getD-set-other, set-set, set-comm}
-use Rattle.rules.specs.Sizes.{half, putHalf}
+use Rattle.rules.specs.Sizes.{loadHalf, storeHalf}
 
 -- the half-words at a and at b have no byte in common
 abbrev pub Apart : ℕ → ℕ → Type 0
@@ -52,22 +52,22 @@ split-inj {v} {w} e = sym (joined-split v) ∙ ap joined e ∙ joined-split w
 abbrev pub bytes : List ℕ → ℕ → Bytes
 bytes m a = record { high = getD m a 0; low = getD m (a + 1) 0 }
 
-pub half-bytes : (m : List ℕ) (a : ℕ) → half m a ≡ joined (bytes m a)
-unfolding half
+pub half-bytes : (m : List ℕ) (a : ℕ) → loadHalf m a ≡ joined (bytes m a)
+unfolding loadHalf
 half-bytes m a = refl
 
 module _ (m : List ℕ) (a v : ℕ) where
-  pub length-putHalf : length (putHalf m a v) ≡ length m
-  unfolding putHalf
-  length-putHalf = simp length-set
+  pub length-storeHalf : length (storeHalf m a v) ≡ length m
+  unfolding storeHalf
+  length-storeHalf = simp length-set
 
-  pub byte-put-other : (b : ℕ) → b ≢ a → b ≢ a + 1 → getD (putHalf m a v) b 0 ≡ getD m b 0
-  unfolding putHalf
-  byte-put-other b h k = rw (getD-set-other, getD-set-other)
+  pub byte-stored-other : (b : ℕ) → b ≢ a → b ≢ a + 1 → getD (storeHalf m a v) b 0 ≡ getD m b 0
+  unfolding storeHalf
+  byte-stored-other b h k = rw (getD-set-other, getD-set-other)
 
-  pub bytes-put-same : a + 1 < length m → bytes (putHalf m a v) a ≡ split v
-  unfolding putHalf
-  bytes-put-same h =
+  pub bytes-stored-same : a + 1 < length m → bytes (storeHalf m a v) a ≡ split v
+  unfolding storeHalf
+  bytes-stored-same h =
       let n : List ℕ = set m a (v / 256) in
       let d : a ≢ a + 1 = omega arith in
       rw (
@@ -76,32 +76,32 @@ module _ (m : List ℕ) (a v : ℕ) where
         getD-set-same n (a + 1) (v % 256) 0 (simp length-set h),
       )
 
-  pub bytes-put-other : (b : ℕ) → Apart a b → bytes (putHalf m a v) b ≡ bytes m b
-  bytes-put-other b h =
+  pub bytes-stored-other : (b : ℕ) → Apart a b → bytes (storeHalf m a v) b ≡ bytes m b
+  bytes-stored-other b h =
       let n = apart-ne h in
-      rw (byte-put-other b (n .0) (n .1), byte-put-other (b + 1) (n .2) (n .3))
+      rw (byte-stored-other b (n .0) (n .1), byte-stored-other (b + 1) (n .2) (n .3))
 
-  pub half-put-same : a + 1 < length m → half (putHalf m a v) a ≡ v
-  half-put-same h = half-bytes (putHalf m a v) a ∙ ap joined (bytes-put-same h) ∙ joined-split v
+  pub half-stored-same : a + 1 < length m → loadHalf (storeHalf m a v) a ≡ v
+  half-stored-same h = half-bytes (storeHalf m a v) a ∙ ap joined (bytes-stored-same h) ∙ joined-split v
 
-  pub half-put-other : (b : ℕ) → Apart a b → half (putHalf m a v) b ≡ half m b
-  half-put-other b h = half-bytes (putHalf m a v) b ∙ ap joined (bytes-put-other b h) ∙ sym (half-bytes m b)
+  pub half-stored-other : (b : ℕ) → Apart a b → loadHalf (storeHalf m a v) b ≡ loadHalf m b
+  half-stored-other b h = half-bytes (storeHalf m a v) b ∙ ap joined (bytes-stored-other b h) ∙ sym (half-bytes m b)
 
-  pub put-put-same : (w : ℕ) → putHalf (putHalf m a v) a w ≡ putHalf m a w
-  unfolding putHalf
-  put-put-same w =
+  pub stored-twice : (w : ℕ) → storeHalf (storeHalf m a v) a w ≡ storeHalf m a w
+  unfolding storeHalf
+  stored-twice w =
       let d : a + 1 ≢ a = omega arith in
       rw (set-comm (set m a (v / 256)) (a + 1) a (v % 256) (w / 256) d) (simp set-set)
 
-  set-past : (i x : ℕ) → i ≢ a → i ≢ a + 1 → set (putHalf m a v) i x ≡ putHalf (set m i x) a v
-  unfolding putHalf
+  set-past : (i x : ℕ) → i ≢ a → i ≢ a + 1 → set (storeHalf m a v) i x ≡ storeHalf (set m i x) a v
+  unfolding storeHalf
   set-past i x h k =
       set-comm (set m a (v / 256)) (a + 1) i (v % 256) x (λ e. k (sym e))
       ∙ ap (λ l. set l (a + 1) (v % 256)) (set-comm m a i (v / 256) x (λ e. h (sym e)))
 
-pub putHalf-comm : (m : List ℕ) (a v b w : ℕ) → Apart a b → putHalf (putHalf m a v) b w ≡ putHalf (putHalf m b w) a v
-unfolding putHalf
-putHalf-comm m a v b w h =
+pub storeHalf-comm : (m : List ℕ) (a v b w : ℕ) → Apart a b → storeHalf (storeHalf m a v) b w ≡ storeHalf (storeHalf m b w) a v
+unfolding storeHalf
+storeHalf-comm m a v b w h =
     let n = apart-ne h in
     ap (λ l. set l (b + 1) (w % 256)) (set-past m a v b (w / 256) (n .0) (n .1))
     ∙ set-past (set m b (w / 256)) a v (b + 1) (w % 256) (n .2) (n .3)

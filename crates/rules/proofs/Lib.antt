@@ -1,7 +1,7 @@
 pub mod Choices
-pub mod Turns
+pub mod Folds
 pub mod Halves
-pub mod Places
+pub mod Strips
 pub mod Rows
 pub mod Pixels
 pub mod Memory

@@ -9,7 +9,7 @@ use native.Mathlib.Decide.{ℕ-discrete}
 use lib.ListN.{length, getD}
 use lib.Seq.{ext-getD}
 use Rattle.rules.specs.declared.Screen.{Screen}
-use Rattle.rules.specs.Turns.{upto}
+use Rattle.rules.specs.Folds.{upto}
 use Rattle.rules.specs.Sizes.{width, height, putPixel}
 use Rattle.rules.proofs.Halves.{bytes}
 use Rattle.rules.proofs.Pixels.{On, Other, ByteOf, Outside, Stands, in-colour, in-depth, outside, stands, other?, Sound, Cell, cell, painted, length-putPixel, cell-put-same, cell-put-other, byte-put-outside}
@@ -78,20 +78,20 @@ module _ {s : Screen} {g : ℕ → ℕ → Cell → Cell} where
       (f : ℕ → List ℕ → List ℕ)
       (once : (i j x y : ℕ) → E i x y → E j x y → i ≡ j)
     where
-      pub touched-turns : (k : ℕ)
+      pub touched-folds : (k : ℕ)
           → ((i : ℕ) (m : List ℕ) → i < k → length m ≡ n → Touched s g (E i) m (f i m))
           → (m : List ℕ)
           → length m ≡ n
           → Touched s g (Below E k) m (upto f k m)
       unfolding upto
-      touched-turns zero t m l = record {
+      touched-folds zero t m l = record {
         same-length = refl;
         changed = λ p d. absurd (omega (arith, d .1));
         kept = λ p d. refl;
         beyond = λ o. refl;
       }
-      touched-turns (suc k) t m l =
-          let b : Touched s g (Below E k) m (upto f k m) = touched-turns k (λ i m h. t i m (omega arith)) m l in
+      touched-folds (suc k) t m l =
+          let b : Touched s g (Below E k) m (upto f k m) = touched-folds k (λ i m h. t i m (omega arith)) m l in
           touched-then b (t k (upto f k m) (omega arith) (b .same-length ∙ l))
           (λ x y d e. omega (arith, d .1, once (d .0) k x y (d .2) e))
           (one-more E k)
@@ -144,7 +144,7 @@ module _ {s : Screen} {g : ℕ → ℕ → Cell → Cell}
       → length m ≡ n
       → Touched s g (Row k y) m (upto (step y) k m)
   row-of-steps k y m a b l =
-      touched-turns n (step y) (λ i j x′ y′ d e. sym (d .0) ∙ e .0) k
+      touched-folds n (step y) (λ i j x′ y′ d e. sym (d .0) ∙ e .0) k
       (λ i m h. one i y m (record { across = omega arith; down = b }))
       m l
 
@@ -153,7 +153,7 @@ module _ {s : Screen} {g : ℕ → ℕ → Cell → Cell}
       → length m ≡ n
       → Touched s g (Rows s h) m (upto (λ y. upto (step y) (width (s .size))) h m)
   rows-of-steps h m a l =
-      touched-turns n (λ y. upto (step y) (width (s .size))) (λ i j x y d e. sym (d .2 .1) ∙ e .2 .1) h
+      touched-folds n (λ y. upto (step y) (width (s .size))) (λ i j x y d e. sym (d .2 .1) ∙ e .2 .1) h
       (λ y m b. row-of-steps (width (s .size)) y m (omega arith) (omega arith))
       m l
 

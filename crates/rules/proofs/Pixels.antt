@@ -1,5 +1,5 @@
 -- A pixel's two half-words as one cell: what stands in it, which byte of the RAM belongs to which pixel, and what writing a pixel leaves.
--- Where the half-words stand is known by the laws of Places alone.
+-- Where the half-words stand is known by the laws of Strips alone.
 use Prim.Native.Nat.{ℕ, zero, suc, _+_, _*_, _/_, _%_, _<_}
 use mathlib.Core.Path.{_≡_, sym, _∙_, ap, subst}
 use mathlib.Core.Logic.{_⊎_, inl, inr}
@@ -10,9 +10,9 @@ use native.Mathlib.Decide.{ℕ-discrete}
 use lib.Arith.{digits-lt, digits-div, digits-mod}
 use lib.ListN.{length, getD}
 use Rattle.rules.specs.declared.Screen.{Screen}
-use Rattle.rules.specs.Sizes.{width, height, colourAt, depthAt, half, putHalf, putPixel}
-use Rattle.rules.proofs.Halves.{Apart, apart-sym, apart-ne, length-putHalf, byte-put-other, bytes-put-same, bytes-put-other, putHalf-comm, Bytes, split, joined, joined-split, bytes}
-pub use Rattle.rules.proofs.Places.{On, Other, Sound, and-l, and-r, sound-facts, width-le, height-le, colour-fits, depth-fits, colour-apart, depth-apart, colour-depth-apart, colour-leaf, depth-leaf}
+use Rattle.rules.specs.Sizes.{width, height, colourAt, depthAt, loadHalf, storeHalf, putPixel}
+use Rattle.rules.proofs.Halves.{Apart, apart-sym, apart-ne, length-storeHalf, byte-stored-other, bytes-stored-same, bytes-stored-other, storeHalf-comm, Bytes, split, joined, joined-split, bytes}
+pub use Rattle.rules.proofs.Strips.{On, Other, Sound, and-l, and-r, sound-facts, width-le, height-le, colour-fits, depth-fits, colour-apart, depth-apart, colour-depth-apart, colour-leaf, depth-leaf}
 
 -- b is a byte of the half-word at a
 abbrev pub ByteOf : ℕ → ℕ → Type 0
@@ -142,7 +142,7 @@ painted colour depth = record { colour = split colour; depth = split depth }
 
 pub length-putPixel : (s : Screen) (x y c d : ℕ) (m : List ℕ) → length (putPixel s x y c d m) ≡ length m
 unfolding putPixel
-length-putPixel s x y c d m = simp length-putHalf
+length-putPixel s x y c d m = simp length-storeHalf
 
 module _ {n : ℕ} {s : Screen} (k : Sound n s) {x y : ℕ} (p : On s x y) (c d : ℕ) (m : List ℕ) where
   pub cell-put-same : length m ≡ n → cell s (putPixel s x y c d m) x y ≡ painted c d
@@ -150,37 +150,37 @@ module _ {n : ℕ} {s : Screen} (k : Sound n s) {x y : ℕ} (p : On s x y) (c d 
   cell-put-same l = λ i. record { colour = colour i; depth = depth i }
     where
       m₁ : List ℕ
-      m₁ = putHalf m (colourAt s x y) c
+      m₁ = storeHalf m (colourAt s x y) c
 
-      colour : bytes (putHalf m₁ (depthAt s x y) d) (colourAt s x y) ≡ split c
+      colour : bytes (storeHalf m₁ (depthAt s x y) d) (colourAt s x y) ≡ split c
       colour =
-          bytes-put-other m₁ (depthAt s x y) d (colourAt s x y) (apart-sym (colour-depth-apart k p p))
-          ∙ bytes-put-same m (colourAt s x y) c (rw l (colour-fits k p))
+          bytes-stored-other m₁ (depthAt s x y) d (colourAt s x y) (apart-sym (colour-depth-apart k p p))
+          ∙ bytes-stored-same m (colourAt s x y) c (rw l (colour-fits k p))
 
-      depth : bytes (putHalf m₁ (depthAt s x y) d) (depthAt s x y) ≡ split d
-      depth = bytes-put-same m₁ (depthAt s x y) d (rw (length-putHalf m (colourAt s x y) c ∙ l) (depth-fits k p))
+      depth : bytes (storeHalf m₁ (depthAt s x y) d) (depthAt s x y) ≡ split d
+      depth = bytes-stored-same m₁ (depthAt s x y) d (rw (length-storeHalf m (colourAt s x y) c ∙ l) (depth-fits k p))
 
-  pub colour-put-same : length m ≡ n → half (putPixel s x y c d m) (colourAt s x y) ≡ c
-  unfolding half
+  pub colour-put-same : length m ≡ n → loadHalf (putPixel s x y c d m) (colourAt s x y) ≡ c
+  unfolding loadHalf
   colour-put-same l = ap (λ z. joined (z .colour)) (cell-put-same l) ∙ joined-split c
 
-  pub depth-put-same : length m ≡ n → half (putPixel s x y c d m) (depthAt s x y) ≡ d
-  unfolding half
+  pub depth-put-same : length m ≡ n → loadHalf (putPixel s x y c d m) (depthAt s x y) ≡ d
+  unfolding loadHalf
   depth-put-same l = ap (λ z. joined (z .depth)) (cell-put-same l) ∙ joined-split d
 
   pub byte-put-outside : {b : ℕ} → Outside s b → getD (putPixel s x y c d m) b 0 ≡ getD m b 0
   unfolding putPixel
   byte-put-outside {b} o =
-      byte-put-other (putHalf m (colourAt s x y) c) (depthAt s x y) d b
+      byte-stored-other (storeHalf m (colourAt s x y) c) (depthAt s x y) d b
       (λ e. o .no-depth p (inl e)) (λ e. o .no-depth p (inr e))
-      ∙ byte-put-other m (colourAt s x y) c b (λ e. o .no-colour p (inl e)) (λ e. o .no-colour p (inr e))
+      ∙ byte-stored-other m (colourAt s x y) c b (λ e. o .no-colour p (inl e)) (λ e. o .no-colour p (inr e))
 
   module _ {x′ y′ : ℕ} (p′ : On s x′ y′) (o : Other x y x′ y′) where
     kept : (a : ℕ) → Apart (colourAt s x y) a → Apart (depthAt s x y) a → bytes (putPixel s x y c d m) a ≡ bytes m a
     unfolding putPixel
     kept a h j =
-        bytes-put-other (putHalf m (colourAt s x y) c) (depthAt s x y) d a j
-        ∙ bytes-put-other m (colourAt s x y) c a h
+        bytes-stored-other (storeHalf m (colourAt s x y) c) (depthAt s x y) d a j
+        ∙ bytes-stored-other m (colourAt s x y) c a h
 
     pub cell-put-other : cell s (putPixel s x y c d m) x′ y′ ≡ cell s m x′ y′
     cell-put-other = λ i. record {
@@ -188,12 +188,12 @@ module _ {n : ℕ} {s : Screen} (k : Sound n s) {x y : ℕ} (p : On s x y) (c d 
       depth = kept (depthAt s x′ y′) (colour-depth-apart k p p′) (depth-apart k p p′ o) i;
     }
 
-    pub colour-put-other : half (putPixel s x y c d m) (colourAt s x′ y′) ≡ half m (colourAt s x′ y′)
-    unfolding half
+    pub colour-put-other : loadHalf (putPixel s x y c d m) (colourAt s x′ y′) ≡ loadHalf m (colourAt s x′ y′)
+    unfolding loadHalf
     colour-put-other = ap (λ z. joined (z .colour)) cell-put-other
 
-    pub depth-put-other : half (putPixel s x y c d m) (depthAt s x′ y′) ≡ half m (depthAt s x′ y′)
-    unfolding half
+    pub depth-put-other : loadHalf (putPixel s x y c d m) (depthAt s x′ y′) ≡ loadHalf m (depthAt s x′ y′)
+    unfolding loadHalf
     depth-put-other = ap (λ z. joined (z .depth)) cell-put-other
 
     pub putPixel-comm : (c′ d′ : ℕ)
@@ -204,9 +204,9 @@ module _ {n : ℕ} {s : Screen} (k : Sound n s) {x y : ℕ} (p : On s x y) (c d 
         let b : ℕ = depthAt s x y in
         let a′ : ℕ = colourAt s x′ y′ in
         let b′ : ℕ = depthAt s x′ y′ in
-        ap (λ l. putHalf l b d)
-        (sym (putHalf-comm (putHalf m a′ c′) a c b′ d′ (colour-depth-apart k p p′))
-        ∙ ap (λ l. putHalf l b′ d′) (sym (putHalf-comm m a c a′ c′ (colour-apart k p p′ o))))
-        ∙ sym (putHalf-comm (putHalf (putHalf m a c) a′ c′) b d b′ d′ (depth-apart k p p′ o))
-        ∙ ap (λ l. putHalf l b′ d′)
-        (sym (putHalf-comm (putHalf m a c) b d a′ c′ (apart-sym (colour-depth-apart k p′ p))))
+        ap (λ l. storeHalf l b d)
+        (sym (storeHalf-comm (storeHalf m a′ c′) a c b′ d′ (colour-depth-apart k p p′))
+        ∙ ap (λ l. storeHalf l b′ d′) (sym (storeHalf-comm m a c a′ c′ (colour-apart k p p′ o))))
+        ∙ sym (storeHalf-comm (storeHalf (storeHalf m a c) a′ c′) b d b′ d′ (depth-apart k p p′ o))
+        ∙ ap (λ l. storeHalf l b′ d′)
+        (sym (storeHalf-comm (storeHalf m a c) b d a′ c′ (apart-sym (colour-depth-apart k p′ p))))

@@ -6,10 +6,10 @@ use native.Mathlib.Omega.{arith}
 use lib.Dec.{ltb}
 use borrow.Author.Tests.{ltb-true}
 use Rattle.rules.specs.declared.Screen.{Screen}
-use Rattle.rules.specs.Turns.{choose}
+use Rattle.rules.specs.Folds.{choose}
 use Rattle.rules.specs.Sizes.{width, height, sound, colourAt}
 use Rattle.rules.specs.Numbers.{tooLong, rowNumber}
-use Rattle.rules.proofs.Places.{sound-facts, colour-in-row, row-fits}
+use Rattle.rules.proofs.Strips.{sound-facts, colour-in-row, row-fits}
 
 pub record RowLies (n : ℕ) (s : Screen) (row : ℕ) : Type 0 where
   pub follow : (x : ℕ) → colourAt s x row ≡ colourAt s 0 row + x * 2

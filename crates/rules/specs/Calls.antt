@@ -8,9 +8,9 @@ use lib.Dec.{eqb}
 use Rattle.rules.specs.declared.Screen.{Screen}
 use Rattle.rules.specs.declared.Triangle.{Triangle}
 use Rattle.rules.specs.declared.Drawn.{Drawn}
-use Rattle.rules.specs.Turns.{upto, choose}
+use Rattle.rules.specs.Folds.{upto, choose}
 use Rattle.rules.specs.Sizes.{width, height, colourAt, putPixel}
-use Rattle.rules.specs.Numbers.{clearNumber, rowNumber, triangleNumber}
+use Rattle.rules.specs.Numbers.{screenNumber, rowNumber, triangleNumber}
 use Rattle.rules.specs.Triangles.{coveredPixels, writtenPixels, drawn}
 
 -- "a clear (every pixel of a screen to one given colour and one given depth, all else kept)"
@@ -24,8 +24,8 @@ accepted number done kept = choose (eqb number 0) done kept
 
 -- a clear from memory m: it answers `number` and leaves the memory `after`
 pub record Clears (m : List ℕ) (s : Screen) (colour depth : ℕ) (number : ℕ) (after : List ℕ) : Type 0 where
-  pub answers : number ≡ clearNumber (length m) s
-  pub leaves : after ≡ accepted (clearNumber (length m) s) (cleared s colour depth m) m
+  pub answers : number ≡ screenNumber (length m) s
+  pub leaves : after ≡ accepted (screenNumber (length m) s) (cleared s colour depth m) m
 
 -- drawing a triangle from memory m: it answers `answer` and leaves the memory `after`
 pub record Draws (m : List ℕ) (s : Screen) (t : Triangle) (answer : Drawn) (after : List ℕ) : Type 0 where

@@ -6,7 +6,7 @@ use lib.IntN.{ℤ, pos, negsuc}
 use lib.Signed.{leZ}
 use Rattle.rules.specs.declared.Screen.{Screen}
 use Rattle.rules.specs.declared.Triangle.{Triangle}
-use Rattle.rules.specs.Turns.{pixels, choose}
+use Rattle.rules.specs.Folds.{pixels, choose}
 use Rattle.rules.specs.Sizes.{ramLimit, width, height, sound}
 use Rattle.rules.specs.Triangles.{Edge, edge1, edge2, edge3, edgeValue, sample}
 
@@ -39,8 +39,8 @@ triangleTooLarge t w h =
     ltb 0 (pixels (λ x y. edgeTooLarge (edge1 t) x y || edgeTooLarge (edge2 t) x y || edgeTooLarge (edge3 t) x y) w h)
 
 -- "a clear 3 and 5"
-unfoldable pub clearNumber : ℕ → Screen → ℕ
-clearNumber ramLength s = choose (tooLong ramLength) 3 (choose (not (sound ramLength s)) 5 0)
+unfoldable pub screenNumber : ℕ → Screen → ℕ
+screenNumber ramLength s = choose (tooLong ramLength) 3 (choose (not (sound ramLength s)) 5 0)
 
 -- "rows 3, 5, 8"; 8: "row not below the height"
 unfoldable pub rowNumber : ℕ → Screen → ℕ → ℕ

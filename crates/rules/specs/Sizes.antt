@@ -49,12 +49,12 @@ unfoldable pub depthAt : Screen → ℕ → ℕ → ℕ
 depthAt s x y = s .depth + (y * width (s .size) + x) * 2
 
 -- "half-words big-endian"
-unfoldable pub half : List ℕ → ℕ → ℕ
-half m a = getD m a 0 * 256 + getD m (a + 1) 0
+unfoldable pub loadHalf : List ℕ → ℕ → ℕ
+loadHalf m a = getD m a 0 * 256 + getD m (a + 1) 0
 
-unfoldable pub putHalf : List ℕ → ℕ → ℕ → List ℕ
-putHalf m a v = set (set m a (v / 256)) (a + 1) (v % 256)
+unfoldable pub storeHalf : List ℕ → ℕ → ℕ → List ℕ
+storeHalf m a v = set (set m a (v / 256)) (a + 1) (v % 256)
 
 -- a pixel's colour and depth, written
 unfoldable pub putPixel : Screen → ℕ → ℕ → ℕ → ℕ → List ℕ → List ℕ
-putPixel s x y colour depth m = putHalf (putHalf m (colourAt s x y) colour) (depthAt s x y) depth
+putPixel s x y colour depth m = storeHalf (storeHalf m (colourAt s x y) colour) (depthAt s x y) depth

@@ -8,8 +8,8 @@ use Rattle.ints.specs.Modulo.{mod32}
 use Rattle.rules.specs.declared.Screen.{Screen}
 use Rattle.rules.specs.declared.Plane.{Plane}
 use Rattle.rules.specs.declared.Triangle.{Triangle}
-use Rattle.rules.specs.Turns.{upto, pixels, choose}
-use Rattle.rules.specs.Sizes.{width, height, depthAt, half, putPixel}
+use Rattle.rules.specs.Folds.{upto, pixels, choose}
+use Rattle.rules.specs.Sizes.{width, height, depthAt, loadHalf, putPixel}
 
 -- "At pixel (x, y) a plane has c + a·x + b·y, taken modulo 2^32."
 unfoldable pub planeAt : Plane → ℕ → ℕ → ℕ
@@ -102,7 +102,7 @@ covered t s x y = onScreen s x y && insideAll t (sample x y)
 
 -- "A covered pixel is written, colour and depth, if its depth is at most the stored depth."
 unfoldable pub written : Triangle → Screen → List ℕ → ℕ → ℕ → Bool
-written t s m x y = covered t s x y && leb (triangleDepth t x y) (half m (depthAt s x y))
+written t s m x y = covered t s x y && leb (triangleDepth t x y) (loadHalf m (depthAt s x y))
 
 -- "how many pixels were covered and how many written"
 abbrev pub coveredPixels : Triangle → Screen → ℕ

@@ -4,9 +4,9 @@ use mathlib.Core.Path.{_≡_, refl}
 use mathlib.Core.Bool.{Bool, true, false, not}
 use native.Mathlib.Omega.{arith}
 use Rattle.rules.specs.declared.Screen.{Screen}
-use Rattle.rules.specs.Turns.{choose}
+use Rattle.rules.specs.Folds.{choose}
 use Rattle.rules.specs.Sizes.{sound}
-use Rattle.rules.specs.Numbers.{tooLong, clearNumber}
+use Rattle.rules.specs.Numbers.{tooLong, screenNumber}
 use Rattle.rules.proofs.Pixels.{Sound, sound-facts}
 
 -- the beginning of every number: 3, then 5, then the rest
@@ -19,9 +19,9 @@ accepted-screen n s rest e = go (tooLong n) (sound n s) refl e
     go false false p q = absurd (omega (arith, q))
     go false true p q = (p, q)
 
-pub clear-sound : (n : ℕ) (s : Screen) → clearNumber n s ≡ 0 → sound n s ≡ true
-unfolding clearNumber
+pub clear-sound : (n : ℕ) (s : Screen) → screenNumber n s ≡ 0 → sound n s ≡ true
+unfolding screenNumber
 clear-sound n s e = accepted-screen n s 0 e .0
 
-pub accepted-clear : (n : ℕ) (s : Screen) → clearNumber n s ≡ 0 → Sound n s
+pub accepted-clear : (n : ℕ) (s : Screen) → screenNumber n s ≡ 0 → Sound n s
 accepted-clear n s e = sound-facts (clear-sound n s e)

@@ -9,15 +9,15 @@ use native.Mathlib.Nat.{mul-comm}
 use lib.ListN.{length}
 use borrow.Author.Tests.{eq-eqb, ne-eqb}
 use Rattle.rules.specs.declared.Screen.{Screen}
-use Rattle.rules.specs.Turns.{upto}
-use Rattle.rules.specs.Sizes.{width, height, area, putHalf, putPixel}
-use Rattle.rules.specs.Numbers.{clearNumber}
+use Rattle.rules.specs.Folds.{upto}
+use Rattle.rules.specs.Sizes.{width, height, area, storeHalf, putPixel}
+use Rattle.rules.specs.Numbers.{screenNumber}
 use Rattle.rules.specs.Calls.{cleared, Clears}
-use Rattle.rules.proofs.Turns.{upto-more, upto-keeps}
-use Rattle.rules.proofs.Halves.{Apart, length-putHalf, putHalf-comm}
-use Rattle.rules.proofs.Places.{Sound, colour-in-area, depth-in-area}
+use Rattle.rules.proofs.Folds.{upto-more, upto-keeps}
+use Rattle.rules.proofs.Halves.{Apart, length-storeHalf, storeHalf-comm}
+use Rattle.rules.proofs.Strips.{Sound, colour-in-area, depth-in-area}
 use Rattle.screen.specs.Fills.{filled}
-use Rattle.screen.proofs.Runs.{upto-pairs, upto-rows}
+use Rattle.screen.proofs.Pairs.{upto-pairs, upto-rows}
 use Rattle.screen.proofs.Tests.{chosen, other}
 
 -- an area filled up to the half-word at `a`
@@ -31,24 +31,24 @@ filled-none start v m =
     rw e
 
 pub filled-more : (start v a : ℕ) (m : List ℕ) → start ≤ a → (a - start) % 2 ≡ 0
-    → putHalf (filledTo start v a m) a v ≡ filledTo start v (a + 2) m
+    → storeHalf (filledTo start v a m) a v ≡ filledTo start v (a + 2) m
 unfolding filled
 filled-more start v a m l e =
     let i : ℕ = (a - start) / 2 in
     let at : start + i * 2 ≡ a = omega arith in
     let next : (a + 2 - start) / 2 ≡ i + 1 = omega arith in
-    ap (λ b. putHalf (upto step i m) b v) (sym at)
+    ap (λ b. storeHalf (upto step i m) b v) (sym at)
     ∙ sym (upto-more step i m)
     ∙ ap (λ k. upto step k m) (sym next)
   where
     step : ℕ → List ℕ → List ℕ
-    step j b = putHalf b (start + j * 2) v
+    step j b = storeHalf b (start + j * 2) v
 
 pub length-filled : (start v count : ℕ) (m : List ℕ) → length (filled start v count m) ≡ length m
 unfolding filled
 length-filled start v count m =
-    upto-keeps (λ j b. putHalf b (start + j * 2) v) (λ b. length b ≡ length m) count m
-    (λ j b l e. length-putHalf b (start + j * 2) v ∙ e)
+    upto-keeps (λ j b. storeHalf b (start + j * 2) v) (λ b. length b ≡ length m) count m
+    (λ j b l e. length-storeHalf b (start + j * 2) v ∙ e)
     refl
 
 abbrev pixelCount : Screen → ℕ
@@ -67,28 +67,28 @@ module _ {n : ℕ} {s : Screen} (k : Sound n s) (c d : ℕ) where
   unfolding filled cleared putPixel
   two-fills m =
       upto-pairs
-      (λ j b. putHalf b (s .colour + j * 2) c)
-      (λ i b. putHalf b (s .depth + i * 2) d)
+      (λ j b. storeHalf b (s .colour + j * 2) c)
+      (λ i b. storeHalf b (s .depth + i * 2) d)
       (pixelCount s)
       m
-      (λ i j b p q. putHalf-comm b (s .colour + j * 2) c (s .depth + i * 2) d (apart i j p q))
+      (λ i j b p q. storeHalf-comm b (s .colour + j * 2) c (s .depth + i * 2) d (apart i j p q))
       ∙ ap (λ k. upto both k m) (mul-comm (width (s .size)) (height (s .size)))
       ∙ sym (upto-rows both (width (s .size)) (height (s .size)) m)
-      ∙ sym (λ i. upto (λ y. upto (λ x b. putHalf (putHalf b (colour-in-area s x y i) c) (depth-in-area s x y i) d)
+      ∙ sym (λ i. upto (λ y. upto (λ x b. storeHalf (storeHalf b (colour-in-area s x y i) c) (depth-in-area s x y i) d)
       (width (s .size))) (height (s .size)) m)
     where
       both : ℕ → List ℕ → List ℕ
-      both i b = putHalf (putHalf b (s .colour + i * 2) c) (s .depth + i * 2) d
+      both i b = storeHalf (storeHalf b (s .colour + i * 2) c) (s .depth + i * 2) d
 
   pub areas-filled : (m : List ℕ) {m₁ m₂ : List ℕ} {count : ℕ} → count ≡ pixelCount s
       → m₁ ≡ filled (s .colour) c count m → m₂ ≡ filled (s .depth) d count m₁ → m₂ ≡ cleared s c d m
   areas-filled m e p q = rw (q, p, e) (two-fills m)
 
-module _ (m : List ℕ) (s : Screen) (c d : ℕ) (r : ℕ) (answers : r ≡ clearNumber (length m) s) where
+module _ (m : List ℕ) (s : Screen) (c d : ℕ) (r : ℕ) (answers : r ≡ screenNumber (length m) s) where
   pub refused : ¬ (r ≡ 0) → Clears m s c d r m
   refused z = record { answers = answers; leaves = other _ (cleared s c d m) m (ne-eqb _ _ (λ p. z (answers ∙ p))) }
 
   pub done : r ≡ 0 → (after : List ℕ) → after ≡ cleared s c d m → Clears m s c d 0 after
   done z after e =
-      let zero : clearNumber (length m) s ≡ 0 = sym answers ∙ z in
+      let zero : screenNumber (length m) s ≡ 0 = sym answers ∙ z in
       record { answers = sym zero; leaves = e ∙ chosen _ (cleared s c d m) m (eq-eqb _ _ zero) }

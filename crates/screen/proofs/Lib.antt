@@ -2,6 +2,6 @@ pub mod Accepted
 pub mod Bounds
 pub mod Fills
 pub mod RowBounds
-pub mod Runs
+pub mod Pairs
 pub mod Tests
 pub mod Unique

@@ -1,7 +1,7 @@
 -- What a chain of tests answers, from the tests that were made on the way.
 use mathlib.Core.Path.{_≡_, refl}
 use mathlib.Core.Bool.{Bool, true, false, _&&_, _||_}
-use Rattle.rules.specs.Turns.{choose}
+use Rattle.rules.specs.Folds.{choose}
 
 pub and-true : (a b : Bool) → a ≡ true → b ≡ (a && b)
 and-true a b e = rw e

@@ -2,8 +2,8 @@
 use Prim.Native.Nat.{ℕ, _<_}
 use mathlib.Core.Path.{_≡_}
 use mathlib.Core.List.{List}
-use Rattle.rules.specs.Sizes.{half}
+use Rattle.rules.specs.Sizes.{loadHalf}
 
 pub record LoadsHalf (m : List ℕ) (a : ℕ) (r : ℕ) : Type 0 where
-  pub value : r ≡ half m a
+  pub value : r ≡ loadHalf m a
   pub small : r < 65536

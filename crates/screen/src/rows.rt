@@ -3,7 +3,7 @@ ghost use mathlib.Core.Path.{_≡_};
 ghost use lib.ListN.{length};
 ghost use Rattle.rules.specs.Numbers.{rowNumber};
 ghost use Rattle.screen.specs.Rows.{HandsBack, Locates};
-use crate::sizes::colour_place;
+use crate::sizes::colour_at;
 use crate::sizes::height;
 use crate::sizes::sound;
 use crate::sizes::too_long;
@@ -48,7 +48,7 @@ pub fn row_part(ram: &[u8], s: Screen, row: u32) -> RowPart
     }
     RowPart {
         number,
-        start: colour_place(s, 0, row) as u64,
+        start: colour_at(s, 0, row) as u64,
         length: 2 * width(s.size) as u64,
     }
 }

@@ -1,9 +1,9 @@
 ghost use Prim.Native.Nat.{_*_, _^_, _<_};
 ghost use mathlib.Core.Bool.{_&&_};
 ghost use mathlib.Core.Path.{_≡_};
-ghost use Rattle.rules.specs.Numbers.{clearNumber, tooLong};
+ghost use Rattle.rules.specs.Numbers.{screenNumber, tooLong};
 ghost use Rattle.rules.specs.Sizes.{area, colourAt, depthAt, height, sizeInRange, sound, soundAreas, width};
-ghost use Rattle.screen.specs.Places.{areasApart, areasFit, between, evenStarts, placeAt};
+ghost use Rattle.screen.specs.Areas.{areasApart, areasFit, between, evenStarts, pixelAt};
 use rules::Screen;
 
 pub fn width(size: u32) -> u32
@@ -91,7 +91,7 @@ pub fn too_long(len: usize) -> bool
 
 // The number of a call that asks for nothing but a sound screen.
 pub fn screen_number(len: usize, s: Screen) -> u32
-    ensures { λ r. ⌜ r ≡ clearNumber len s ⌝ }
+    ensures { λ r. ⌜ r ≡ screenNumber len s ⌝ }
 {
     if too_long(len) {
         3
@@ -103,20 +103,20 @@ pub fn screen_number(len: usize, s: Screen) -> u32
 }
 
 // Where pixel (x, y) stands in an area that starts at `start`. In 64 bits nothing wraps, on any screen.
-fn place(start: u32, size: u32, x: u32, y: u32) -> usize
-    ensures { λ r. ⌜ r ≡ placeAt start size x y ⌝ }
+fn pixel_at(start: u32, size: u32, x: u32, y: u32) -> usize
+    ensures { λ r. ⌜ r ≡ pixelAt start size x y ⌝ }
 {
     start as usize + (y as usize * width(size) as usize + x as usize) * 2
 }
 
-pub fn colour_place(s: Screen, x: u32, y: u32) -> usize
+pub fn colour_at(s: Screen, x: u32, y: u32) -> usize
     ensures { λ r. ⌜ r ≡ colourAt s x y ⌝ }
 {
-    place(s.colour, s.size, x, y)
+    pixel_at(s.colour, s.size, x, y)
 }
 
-pub fn depth_place(s: Screen, x: u32, y: u32) -> usize
+pub fn depth_at(s: Screen, x: u32, y: u32) -> usize
     ensures { λ r. ⌜ r ≡ depthAt s x y ⌝ }
 {
-    place(s.depth, s.size, x, y)
+    pixel_at(s.depth, s.size, x, y)
 }

@@ -2,7 +2,7 @@
 use mathlib.Core.Path.{_≡_, refl}
 use mathlib.Core.List.{map}
 use Rattle.ints.specs.Modulo.{mod32}
-use Rattle.rules.specs.Turns.{howMany, pixels}
+use Rattle.rules.specs.Folds.{howMany, pixels}
 use Rattle.rules.specs.Triangles.{sample, edgeValue, keepsZero, inside, insideAll, covered}
 use Rattle.instructions.specs.Words.{withRegister, signExtended, address}
 use Rattle.instructions.specs.Arithmetic.{roundedProduct, reciprocal, immediate, shiftAmount, shiftedSigned, dot, value, result}

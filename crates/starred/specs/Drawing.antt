@@ -5,7 +5,7 @@ use lib.IntN.{ℤ, pos}
 use Rattle.rules.specs.declared.Screen.{Screen}
 use Rattle.rules.specs.declared.Plane.{Plane}
 use Rattle.rules.specs.declared.Triangle.{Triangle}
-use Rattle.rules.specs.Turns.{pixels}
+use Rattle.rules.specs.Folds.{pixels}
 use Rattle.rules.specs.Sizes.{width, height}
 use Rattle.rules.specs.Triangles.{covered, coveredPixels}
 

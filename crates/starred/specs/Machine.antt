@@ -4,7 +4,7 @@ use mathlib.Core.List.{List, [], _∷_}
 use lib.ListN.{replicate}
 use lib.IntN.{ℤ, pos, negℤ}
 use Rattle.ints.specs.Modulo.{mod32}
-use Rattle.rules.specs.Turns.{bit}
+use Rattle.rules.specs.Folds.{bit}
 use Rattle.instructions.specs.declared.State.{State}
 use Rattle.instructions.specs.Words.{register, signed}
 use Rattle.instructions.specs.Step.{withRegisters, withFlags, step}

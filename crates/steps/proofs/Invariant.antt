@@ -7,7 +7,7 @@ use mathlib.Core.List.{List}
 use native.Mathlib.Omega.{arith}
 use lib.ListN.{length}
 use borrow.Author.Tests.{lt-ltb, le-ltb, eq-eqb, ne-eqb}
-use Rattle.rules.specs.Turns.{bit}
+use Rattle.rules.specs.Folds.{bit}
 use Rattle.instructions.specs.Halts.{wordAt, haltNumber}
 use Rattle.instructions.specs.Step.{Machine, withState, withHalt, isHalted, step}
 use Rattle.instructions.specs.Run.{run, isCounted, steps}

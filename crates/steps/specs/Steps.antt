@@ -5,7 +5,7 @@ use mathlib.Core.Bool.{true, false}
 use mathlib.Core.List.{List}
 use lib.ListN.{length}
 use lib.Dec.{eqb}
-use Rattle.rules.specs.Turns.{choose}
+use Rattle.rules.specs.Folds.{choose}
 use Rattle.rules.specs.Sizes.{ramLimit, sound}
 use Rattle.instructions.specs.Opcodes.{LD, ST, DOT, WRITE}
 use Rattle.instructions.specs.Words.{opcode, inR1, inR2, inR3, register, address}

@@ -34,7 +34,7 @@ ghost use Prim.Native.Nat.{_<_};
 ghost use mathlib.Core.Path.{_≡_};
 ghost use lib.ListN.{length};
 ghost use Rattle.rules.specs.Calls.{cleared};
-ghost use Rattle.rules.specs.Numbers.{clearNumber};
+ghost use Rattle.rules.specs.Numbers.{screenNumber};
 ghost use Rattle.instructions.specs.Opcodes.{WRITE};
 ghost use Rattle.instructions.specs.Words.{imm, inR1, inR2, opcode, r1, register, withRegister};
 ghost use Rattle.instructions.specs.Arithmetic.{lowHalf};
@@ -89,7 +89,7 @@ fn low_half(v: u32) -> u16
 }
 
 fn cls(w: u32, regs: &[u32; 32], screen: Screen, ram: &mut [u8])
-    requires { ⌜ clearNumber (length (now ram)) screen ≡ 0 ⌝ }
+    requires { ⌜ screenNumber (length (now ram)) screen ≡ 0 ⌝ }
     ensures { λ _. ⌜ now (ram .exit) ≡ cleared screen (lowHalf (inR1 (now (regs .entry)) w)) (lowHalf (inR2 (now (regs .entry)) w)) (now (ram .entry)) ⌝ }
 {
     clear(

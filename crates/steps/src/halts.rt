@@ -9,7 +9,7 @@ use crate::registers::in_r3;
 use alu::fields::opcode;
 ghost use Prim.Native.Nat.{_≤_};
 ghost use mathlib.Core.Path.{_≡_};
-ghost use Rattle.rules.specs.Turns.{choose};
+ghost use Rattle.rules.specs.Folds.{choose};
 ghost use Rattle.instructions.specs.Opcodes.{WRITE};
 ghost use Rattle.instructions.specs.Words.{opcode};
 ghost use Rattle.steps.specs.Steps.{memoryHalt};

@@ -9,7 +9,7 @@ use alu::jumps::goes;
 ghost use Prim.Native.Nat.{_+_, _<_};
 ghost use mathlib.Core.Path.{_≡_};
 ghost use mathlib.Core.Bool.{true};
-ghost use Rattle.rules.specs.Turns.{choose};
+ghost use Rattle.rules.specs.Folds.{choose};
 ghost use Rattle.instructions.specs.Words.{address, opcode};
 ghost use Rattle.instructions.specs.Jumps.{goes, isJump};
 ghost use Rattle.steps.specs.Steps.{Going, Jumps};

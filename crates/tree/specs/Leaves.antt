@@ -4,8 +4,8 @@ use mathlib.Core.Path.{_≡_}
 use mathlib.Core.Bool.{Bool, true, false}
 use mathlib.Core.List.{List}
 use Rattle.rules.specs.declared.Screen.{Screen}
-use Rattle.rules.specs.Turns.{choose}
-use Rattle.rules.specs.Sizes.{sound, half, putHalf}
+use Rattle.rules.specs.Folds.{choose}
+use Rattle.rules.specs.Sizes.{sound, loadHalf, storeHalf}
 use Rattle.instructions.specs.declared.Tree.{Tree}
 use Rattle.instructions.specs.Tree.{leaves, refusesPlace}
 
@@ -16,9 +16,9 @@ pub record Placed (ramLength : ℕ) (s : Screen) (t : Tree) : Type 0 where
 
 -- sixteen half-words side by side, from `first` on
 abbrev pub halves : List ℕ → ℕ → List ℕ
-halves ram first = leaves (λ k. half ram (first + 2 * k))
+halves ram first = leaves (λ k. loadHalf ram (first + 2 * k))
 
 -- one leaf of TREEPUT: "its colour always, its depth only if one is held"
 unfoldable pub stored : Bool → ℕ → ℕ → ℕ → ℕ → List ℕ → List ℕ
 stored held colourPlace depthPlace colour depth ram =
-    choose held (putHalf (putHalf ram colourPlace colour) depthPlace depth) (putHalf ram colourPlace colour)
+    choose held (storeHalf (storeHalf ram colourPlace colour) depthPlace depth) (storeHalf ram colourPlace colour)

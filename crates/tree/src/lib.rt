@@ -3,8 +3,8 @@ use instructions::Tree;
 use rules::Screen;
 use screen::halves::load_half;
 use screen::halves::store_half;
-use screen::sizes::colour_place;
-use screen::sizes::depth_place;
+use screen::sizes::colour_at;
+use screen::sizes::depth_at;
 use screen::sizes::height;
 use screen::sizes::width;
 use words::product32;
@@ -114,7 +114,7 @@ pub fn tree_depth(ram: &[u8], s: Screen, tree: Tree, a: u32, b: u32) -> Tree
     let mut outside = tree.outside;
     let colour = tree.colour;
     let mut depth = tree.depth;
-    let first = depth_place(s, tree.column, tree.row);
+    let first = depth_at(s, tree.column, tree.row);
     let found = load_halves(ram, first);
     let mut v = a;
     for k in 0..16 {
@@ -192,8 +192,8 @@ pub fn tree_put(ram: &mut [u8], s: Screen, tree: Tree)
     requires { ⌜ Placed (length (now ram)) s tree ⌝ }
     ensures { λ _. ⌜ now (ram .exit) ≡ treePut s tree (now (ram .entry)) ⌝ }
 {
-    let colour = colour_place(s, tree.column, tree.row);
-    let depth = depth_place(s, tree.column, tree.row);
+    let colour = colour_at(s, tree.column, tree.row);
+    let depth = depth_at(s, tree.column, tree.row);
     for k in 0..16 {
         if tree.inside[k] | !tree.outside[k] {
             store_leaf(

@@ -2,10 +2,10 @@
 use mathlib.Core.Path.{_≡_, refl}
 use mathlib.Core.List.{map}
 use Rattle.ints.specs.Modulo.{mod32}
-use Rattle.rules.specs.Turns.{upto, howMany, pixels}
-use Rattle.rules.specs.Sizes.{sound, soundAreas, colourAt, depthAt, half, putHalf, putPixel}
+use Rattle.rules.specs.Folds.{upto, howMany, pixels}
+use Rattle.rules.specs.Sizes.{sound, soundAreas, colourAt, depthAt, loadHalf, storeHalf, putPixel}
 use Rattle.rules.specs.Triangles.{planeAt, topHalf, packed, triangleDepth, triangleColour, sample, edgeValue, keepsZero, inside, insideAll, covered, written, pixelDrawn, rowDrawn, drawn}
-use Rattle.rules.specs.Numbers.{verticesInRange, edgeTooLarge, triangleTooLarge, clearNumber, rowNumber, triangleNumber}
+use Rattle.rules.specs.Numbers.{verticesInRange, edgeTooLarge, triangleTooLarge, screenNumber, rowNumber, triangleNumber}
 use Rattle.rules.specs.Calls.{cleared, rowStart, rowLength, rowBytes}
 use Rattle.instructions.specs.Tree.{refusesPlace}
 use Rattle.instructions.specs.Run.{illFormed, machineNumber}
@@ -19,11 +19,11 @@ use Rattle.vectors.specs.Numbers.{numbers}
 
 pub triangles-hold :
     (map drawingOutcome shapes ≡ map drawingAnswer shapes) × (map drawingOutcome colours ≡ map drawingAnswer colours)
-unfolding shapes colours ram64 ram160 ram256 ram400 far64 far160 far256 far400 mod32 upto howMany pixels sound soundAreas colourAt depthAt half putHalf putPixel planeAt topHalf packed triangleDepth triangleColour sample edgeValue keepsZero inside insideAll covered written pixelDrawn rowDrawn drawn verticesInRange edgeTooLarge triangleTooLarge triangleNumber
+unfolding shapes colours ram64 ram160 ram256 ram400 far64 far160 far256 far400 mod32 upto howMany pixels sound soundAreas colourAt depthAt loadHalf storeHalf putPixel planeAt topHalf packed triangleDepth triangleColour sample edgeValue keepsZero inside insideAll covered written pixelDrawn rowDrawn drawn verticesInRange edgeTooLarge triangleTooLarge triangleNumber
 triangles-hold = (refl, refl)
 
 pub clears-hold : map clearOutcome clears ≡ map clearAnswer clears
-unfolding clears ram64 ram160 ram256 ram400 upto sound soundAreas colourAt depthAt putHalf putPixel clearNumber cleared
+unfolding clears ram64 ram160 ram256 ram400 upto sound soundAreas colourAt depthAt storeHalf putPixel screenNumber cleared
 clears-hold = refl
 
 pub rows-hold : map rowOutcome rows ≡ map rowAnswer rows
@@ -31,5 +31,5 @@ unfolding rows ram64 ram160 ram256 ram400 sound soundAreas colourAt rowNumber ro
 rows-hold = refl
 
 pub numbers-hold : map (λ n. n .gives) numbers ≡ map (λ n. n .said) numbers
-unfolding numbers regs sound soundAreas pixels howMany edgeValue sample verticesInRange edgeTooLarge triangleTooLarge clearNumber rowNumber triangleNumber refusesPlace illFormed machineNumber
+unfolding numbers regs sound soundAreas pixels howMany edgeValue sample verticesInRange edgeTooLarge triangleTooLarge screenNumber rowNumber triangleNumber refusesPlace illFormed machineNumber
 numbers-hold = refl

@@ -9,7 +9,7 @@ use mathlib.Core.Option.{Option, none, some}
 use lib.ListN.{replicate}
 use lib.Dec.{eqb}
 use Rattle.rules.specs.declared.Screen.{Screen}
-use Rattle.rules.specs.Turns.{bit, choose}
+use Rattle.rules.specs.Folds.{bit, choose}
 use Rattle.rules.specs.Calls.{accepted}
 use Rattle.instructions.specs.declared.State.{State}
 use Rattle.instructions.specs.declared.Tree.{Tree}

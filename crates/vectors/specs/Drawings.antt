@@ -8,7 +8,7 @@ use Rattle.rules.specs.declared.Screen.{Screen}
 use Rattle.rules.specs.declared.Plane.{Plane}
 use Rattle.rules.specs.declared.Triangle.{Triangle}
 use Rattle.rules.specs.Triangles.{coveredPixels, writtenPixels, drawn}
-use Rattle.rules.specs.Numbers.{clearNumber, rowNumber, triangleNumber}
+use Rattle.rules.specs.Numbers.{screenNumber, rowNumber, triangleNumber}
 use Rattle.rules.specs.Calls.{cleared, accepted, rowStart, rowLength, rowBytes}
 use Rattle.vectors.specs.Words.{Piece, changed}
 
@@ -79,7 +79,7 @@ clear s m colour depth n new = record { screen = s; ram = m; colour = colour; de
 -- as `Clears` has it
 abbrev pub clearOutcome : Clear → List ℕ
 clearOutcome c =
-    let n = clearNumber (length (c .ram)) (c .screen) in
+    let n = screenNumber (length (c .ram)) (c .screen) in
     n ∷ accepted n (cleared (c .screen) (c .colour) (c .depth) (c .ram)) (c .ram)
 
 abbrev pub clearAnswer : Clear → List ℕ

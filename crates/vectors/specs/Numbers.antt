@@ -1,7 +1,7 @@
 -- Numbers answered, by the RAM's length: 190 cases with the second program's answers, written by rust/vectors with seed 1.
 use mathlib.Core.List.{List, [], _∷_}
 use lib.IntN.{pos}
-use Rattle.rules.specs.Numbers.{clearNumber, rowNumber, triangleNumber}
+use Rattle.rules.specs.Numbers.{screenNumber, rowNumber, triangleNumber}
 use Rattle.instructions.specs.Run.{machineNumber}
 use Rattle.vectors.specs.Given.{regs}
 use Rattle.vectors.specs.Cases.{noScreen, screen, noTree, rest, state}
@@ -10,7 +10,7 @@ use Rattle.vectors.specs.Drawings.{shown, flat, triangle, Number, says}
 unfoldable pub numbers : List Number
 numbers =
     -- clear, 640 by 480, 0 bytes
-    says 5 (clearNumber 0 (shown 0 614400 20960))
+    says 5 (screenNumber 0 (shown 0 614400 20960))
     -- row 0, 640 by 480, 0 bytes
     ∷ says 5 (rowNumber 0 (shown 0 614400 20960) 0)
     -- row 479, 640 by 480, 0 bytes
@@ -18,7 +18,7 @@ numbers =
     -- row 480, 640 by 480, 0 bytes
     ∷ says 5 (rowNumber 0 (shown 0 614400 20960) 480)
     -- clear, 640 by 480, 64 bytes
-    ∷ says 5 (clearNumber 64 (shown 0 614400 20960))
+    ∷ says 5 (screenNumber 64 (shown 0 614400 20960))
     -- row 0, 640 by 480, 64 bytes
     ∷ says 5 (rowNumber 64 (shown 0 614400 20960) 0)
     -- row 479, 640 by 480, 64 bytes
@@ -26,7 +26,7 @@ numbers =
     -- row 480, 640 by 480, 64 bytes
     ∷ says 5 (rowNumber 64 (shown 0 614400 20960) 480)
     -- clear, 640 by 480, 1228799 bytes
-    ∷ says 5 (clearNumber 1228799 (shown 0 614400 20960))
+    ∷ says 5 (screenNumber 1228799 (shown 0 614400 20960))
     -- row 0, 640 by 480, 1228799 bytes
     ∷ says 5 (rowNumber 1228799 (shown 0 614400 20960) 0)
     -- row 479, 640 by 480, 1228799 bytes
@@ -34,7 +34,7 @@ numbers =
     -- row 480, 640 by 480, 1228799 bytes
     ∷ says 5 (rowNumber 1228799 (shown 0 614400 20960) 480)
     -- clear, 640 by 480, 1228800 bytes
-    ∷ says 0 (clearNumber 1228800 (shown 0 614400 20960))
+    ∷ says 0 (screenNumber 1228800 (shown 0 614400 20960))
     -- row 0, 640 by 480, 1228800 bytes
     ∷ says 0 (rowNumber 1228800 (shown 0 614400 20960) 0)
     -- row 479, 640 by 480, 1228800 bytes
@@ -42,7 +42,7 @@ numbers =
     -- row 480, 640 by 480, 1228800 bytes
     ∷ says 8 (rowNumber 1228800 (shown 0 614400 20960) 480)
     -- clear, 640 by 480, 4194303 bytes
-    ∷ says 0 (clearNumber 4194303 (shown 0 614400 20960))
+    ∷ says 0 (screenNumber 4194303 (shown 0 614400 20960))
     -- row 0, 640 by 480, 4194303 bytes
     ∷ says 0 (rowNumber 4194303 (shown 0 614400 20960) 0)
     -- row 479, 640 by 480, 4194303 bytes
@@ -50,7 +50,7 @@ numbers =
     -- row 480, 640 by 480, 4194303 bytes
     ∷ says 8 (rowNumber 4194303 (shown 0 614400 20960) 480)
     -- clear, 640 by 480, 4194304 bytes
-    ∷ says 0 (clearNumber 4194304 (shown 0 614400 20960))
+    ∷ says 0 (screenNumber 4194304 (shown 0 614400 20960))
     -- row 0, 640 by 480, 4194304 bytes
     ∷ says 0 (rowNumber 4194304 (shown 0 614400 20960) 0)
     -- row 479, 640 by 480, 4194304 bytes
@@ -58,7 +58,7 @@ numbers =
     -- row 480, 640 by 480, 4194304 bytes
     ∷ says 8 (rowNumber 4194304 (shown 0 614400 20960) 480)
     -- clear, 640 by 480, 4194305 bytes
-    ∷ says 3 (clearNumber 4194305 (shown 0 614400 20960))
+    ∷ says 3 (screenNumber 4194305 (shown 0 614400 20960))
     -- row 0, 640 by 480, 4194305 bytes
     ∷ says 3 (rowNumber 4194305 (shown 0 614400 20960) 0)
     -- row 479, 640 by 480, 4194305 bytes
@@ -66,7 +66,7 @@ numbers =
     -- row 480, 640 by 480, 4194305 bytes
     ∷ says 3 (rowNumber 4194305 (shown 0 614400 20960) 480)
     -- clear, 640 by 480, 41943040 bytes
-    ∷ says 3 (clearNumber 41943040 (shown 0 614400 20960))
+    ∷ says 3 (screenNumber 41943040 (shown 0 614400 20960))
     -- row 0, 640 by 480, 41943040 bytes
     ∷ says 3 (rowNumber 41943040 (shown 0 614400 20960) 0)
     -- row 479, 640 by 480, 41943040 bytes
@@ -74,7 +74,7 @@ numbers =
     -- row 480, 640 by 480, 41943040 bytes
     ∷ says 3 (rowNumber 41943040 (shown 0 614400 20960) 480)
     -- clear, 640 by 480 at the end, 0 bytes
-    ∷ says 5 (clearNumber 0 (shown 3579904 0 20960))
+    ∷ says 5 (screenNumber 0 (shown 3579904 0 20960))
     -- row 0, 640 by 480 at the end, 0 bytes
     ∷ says 5 (rowNumber 0 (shown 3579904 0 20960) 0)
     -- row 479, 640 by 480 at the end, 0 bytes
@@ -82,7 +82,7 @@ numbers =
     -- row 480, 640 by 480 at the end, 0 bytes
     ∷ says 5 (rowNumber 0 (shown 3579904 0 20960) 480)
     -- clear, 640 by 480 at the end, 64 bytes
-    ∷ says 5 (clearNumber 64 (shown 3579904 0 20960))
+    ∷ says 5 (screenNumber 64 (shown 3579904 0 20960))
     -- row 0, 640 by 480 at the end, 64 bytes
     ∷ says 5 (rowNumber 64 (shown 3579904 0 20960) 0)
     -- row 479, 640 by 480 at the end, 64 bytes
@@ -90,7 +90,7 @@ numbers =
     -- row 480, 640 by 480 at the end, 64 bytes
     ∷ says 5 (rowNumber 64 (shown 3579904 0 20960) 480)
     -- clear, 640 by 480 at the end, 1228799 bytes
-    ∷ says 5 (clearNumber 1228799 (shown 3579904 0 20960))
+    ∷ says 5 (screenNumber 1228799 (shown 3579904 0 20960))
     -- row 0, 640 by 480 at the end, 1228799 bytes
     ∷ says 5 (rowNumber 1228799 (shown 3579904 0 20960) 0)
     -- row 479, 640 by 480 at the end, 1228799 bytes
@@ -98,7 +98,7 @@ numbers =
     -- row 480, 640 by 480 at the end, 1228799 bytes
     ∷ says 5 (rowNumber 1228799 (shown 3579904 0 20960) 480)
     -- clear, 640 by 480 at the end, 1228800 bytes
-    ∷ says 5 (clearNumber 1228800 (shown 3579904 0 20960))
+    ∷ says 5 (screenNumber 1228800 (shown 3579904 0 20960))
     -- row 0, 640 by 480 at the end, 1228800 bytes
     ∷ says 5 (rowNumber 1228800 (shown 3579904 0 20960) 0)
     -- row 479, 640 by 480 at the end, 1228800 bytes
@@ -106,7 +106,7 @@ numbers =
     -- row 480, 640 by 480 at the end, 1228800 bytes
     ∷ says 5 (rowNumber 1228800 (shown 3579904 0 20960) 480)
     -- clear, 640 by 480 at the end, 4194303 bytes
-    ∷ says 5 (clearNumber 4194303 (shown 3579904 0 20960))
+    ∷ says 5 (screenNumber 4194303 (shown 3579904 0 20960))
     -- row 0, 640 by 480 at the end, 4194303 bytes
     ∷ says 5 (rowNumber 4194303 (shown 3579904 0 20960) 0)
     -- row 479, 640 by 480 at the end, 4194303 bytes
@@ -114,7 +114,7 @@ numbers =
     -- row 480, 640 by 480 at the end, 4194303 bytes
     ∷ says 5 (rowNumber 4194303 (shown 3579904 0 20960) 480)
     -- clear, 640 by 480 at the end, 4194304 bytes
-    ∷ says 0 (clearNumber 4194304 (shown 3579904 0 20960))
+    ∷ says 0 (screenNumber 4194304 (shown 3579904 0 20960))
     -- row 0, 640 by 480 at the end, 4194304 bytes
     ∷ says 0 (rowNumber 4194304 (shown 3579904 0 20960) 0)
     -- row 479, 640 by 480 at the end, 4194304 bytes
@@ -122,7 +122,7 @@ numbers =
     -- row 480, 640 by 480 at the end, 4194304 bytes
     ∷ says 8 (rowNumber 4194304 (shown 3579904 0 20960) 480)
     -- clear, 640 by 480 at the end, 4194305 bytes
-    ∷ says 3 (clearNumber 4194305 (shown 3579904 0 20960))
+    ∷ says 3 (screenNumber 4194305 (shown 3579904 0 20960))
     -- row 0, 640 by 480 at the end, 4194305 bytes
     ∷ says 3 (rowNumber 4194305 (shown 3579904 0 20960) 0)
     -- row 479, 640 by 480 at the end, 4194305 bytes
@@ -130,7 +130,7 @@ numbers =
     -- row 480, 640 by 480 at the end, 4194305 bytes
     ∷ says 3 (rowNumber 4194305 (shown 3579904 0 20960) 480)
     -- clear, 640 by 480 at the end, 41943040 bytes
-    ∷ says 3 (clearNumber 41943040 (shown 3579904 0 20960))
+    ∷ says 3 (screenNumber 41943040 (shown 3579904 0 20960))
     -- row 0, 640 by 480 at the end, 41943040 bytes
     ∷ says 3 (rowNumber 41943040 (shown 3579904 0 20960) 0)
     -- row 479, 640 by 480 at the end, 41943040 bytes
@@ -138,7 +138,7 @@ numbers =
     -- row 480, 640 by 480 at the end, 41943040 bytes
     ∷ says 3 (rowNumber 41943040 (shown 3579904 0 20960) 480)
     -- clear, 16 by 1 at the end, 0 bytes
-    ∷ says 5 (clearNumber 0 (shown 4194240 4194272 513))
+    ∷ says 5 (screenNumber 0 (shown 4194240 4194272 513))
     -- row 0, 16 by 1 at the end, 0 bytes
     ∷ says 5 (rowNumber 0 (shown 4194240 4194272 513) 0)
     -- row 0, 16 by 1 at the end, 0 bytes
@@ -146,7 +146,7 @@ numbers =
     -- row 1, 16 by 1 at the end, 0 bytes
     ∷ says 5 (rowNumber 0 (shown 4194240 4194272 513) 1)
     -- clear, 16 by 1 at the end, 64 bytes
-    ∷ says 5 (clearNumber 64 (shown 4194240 4194272 513))
+    ∷ says 5 (screenNumber 64 (shown 4194240 4194272 513))
     -- row 0, 16 by 1 at the end, 64 bytes
     ∷ says 5 (rowNumber 64 (shown 4194240 4194272 513) 0)
     -- row 0, 16 by 1 at the end, 64 bytes
@@ -154,7 +154,7 @@ numbers =
     -- row 1, 16 by 1 at the end, 64 bytes
     ∷ says 5 (rowNumber 64 (shown 4194240 4194272 513) 1)
     -- clear, 16 by 1 at the end, 1228799 bytes
-    ∷ says 5 (clearNumber 1228799 (shown 4194240 4194272 513))
+    ∷ says 5 (screenNumber 1228799 (shown 4194240 4194272 513))
     -- row 0, 16 by 1 at the end, 1228799 bytes
     ∷ says 5 (rowNumber 1228799 (shown 4194240 4194272 513) 0)
     -- row 0, 16 by 1 at the end, 1228799 bytes
@@ -162,7 +162,7 @@ numbers =
     -- row 1, 16 by 1 at the end, 1228799 bytes
     ∷ says 5 (rowNumber 1228799 (shown 4194240 4194272 513) 1)
     -- clear, 16 by 1 at the end, 1228800 bytes
-    ∷ says 5 (clearNumber 1228800 (shown 4194240 4194272 513))
+    ∷ says 5 (screenNumber 1228800 (shown 4194240 4194272 513))
     -- row 0, 16 by 1 at the end, 1228800 bytes
     ∷ says 5 (rowNumber 1228800 (shown 4194240 4194272 513) 0)
     -- row 0, 16 by 1 at the end, 1228800 bytes
@@ -170,7 +170,7 @@ numbers =
     -- row 1, 16 by 1 at the end, 1228800 bytes
     ∷ says 5 (rowNumber 1228800 (shown 4194240 4194272 513) 1)
     -- clear, 16 by 1 at the end, 4194303 bytes
-    ∷ says 5 (clearNumber 4194303 (shown 4194240 4194272 513))
+    ∷ says 5 (screenNumber 4194303 (shown 4194240 4194272 513))
     -- row 0, 16 by 1 at the end, 4194303 bytes
     ∷ says 5 (rowNumber 4194303 (shown 4194240 4194272 513) 0)
     -- row 0, 16 by 1 at the end, 4194303 bytes
@@ -178,7 +178,7 @@ numbers =
     -- row 1, 16 by 1 at the end, 4194303 bytes
     ∷ says 5 (rowNumber 4194303 (shown 4194240 4194272 513) 1)
     -- clear, 16 by 1 at the end, 4194304 bytes
-    ∷ says 0 (clearNumber 4194304 (shown 4194240 4194272 513))
+    ∷ says 0 (screenNumber 4194304 (shown 4194240 4194272 513))
     -- row 0, 16 by 1 at the end, 4194304 bytes
     ∷ says 0 (rowNumber 4194304 (shown 4194240 4194272 513) 0)
     -- row 0, 16 by 1 at the end, 4194304 bytes
@@ -186,7 +186,7 @@ numbers =
     -- row 1, 16 by 1 at the end, 4194304 bytes
     ∷ says 8 (rowNumber 4194304 (shown 4194240 4194272 513) 1)
     -- clear, 16 by 1 at the end, 4194305 bytes
-    ∷ says 3 (clearNumber 4194305 (shown 4194240 4194272 513))
+    ∷ says 3 (screenNumber 4194305 (shown 4194240 4194272 513))
     -- row 0, 16 by 1 at the end, 4194305 bytes
     ∷ says 3 (rowNumber 4194305 (shown 4194240 4194272 513) 0)
     -- row 0, 16 by 1 at the end, 4194305 bytes
@@ -194,7 +194,7 @@ numbers =
     -- row 1, 16 by 1 at the end, 4194305 bytes
     ∷ says 3 (rowNumber 4194305 (shown 4194240 4194272 513) 1)
     -- clear, 16 by 1 at the end, 41943040 bytes
-    ∷ says 3 (clearNumber 41943040 (shown 4194240 4194272 513))
+    ∷ says 3 (screenNumber 41943040 (shown 4194240 4194272 513))
     -- row 0, 16 by 1 at the end, 41943040 bytes
     ∷ says 3 (rowNumber 41943040 (shown 4194240 4194272 513) 0)
     -- row 0, 16 by 1 at the end, 41943040 bytes
@@ -202,7 +202,7 @@ numbers =
     -- row 1, 16 by 1 at the end, 41943040 bytes
     ∷ says 3 (rowNumber 41943040 (shown 4194240 4194272 513) 1)
     -- clear, odd, 0 bytes
-    ∷ says 5 (clearNumber 0 (shown 1 4194272 513))
+    ∷ says 5 (screenNumber 0 (shown 1 4194272 513))
     -- row 0, odd, 0 bytes
     ∷ says 5 (rowNumber 0 (shown 1 4194272 513) 0)
     -- row 0, odd, 0 bytes
@@ -210,7 +210,7 @@ numbers =
     -- row 1, odd, 0 bytes
     ∷ says 5 (rowNumber 0 (shown 1 4194272 513) 1)
     -- clear, odd, 64 bytes
-    ∷ says 5 (clearNumber 64 (shown 1 4194272 513))
+    ∷ says 5 (screenNumber 64 (shown 1 4194272 513))
     -- row 0, odd, 64 bytes
     ∷ says 5 (rowNumber 64 (shown 1 4194272 513) 0)
     -- row 0, odd, 64 bytes
@@ -218,7 +218,7 @@ numbers =
     -- row 1, odd, 64 bytes
     ∷ says 5 (rowNumber 64 (shown 1 4194272 513) 1)
     -- clear, odd, 1228799 bytes
-    ∷ says 5 (clearNumber 1228799 (shown 1 4194272 513))
+    ∷ says 5 (screenNumber 1228799 (shown 1 4194272 513))
     -- row 0, odd, 1228799 bytes
     ∷ says 5 (rowNumber 1228799 (shown 1 4194272 513) 0)
     -- row 0, odd, 1228799 bytes
@@ -226,7 +226,7 @@ numbers =
     -- row 1, odd, 1228799 bytes
     ∷ says 5 (rowNumber 1228799 (shown 1 4194272 513) 1)
     -- clear, odd, 1228800 bytes
-    ∷ says 5 (clearNumber 1228800 (shown 1 4194272 513))
+    ∷ says 5 (screenNumber 1228800 (shown 1 4194272 513))
     -- row 0, odd, 1228800 bytes
     ∷ says 5 (rowNumber 1228800 (shown 1 4194272 513) 0)
     -- row 0, odd, 1228800 bytes
@@ -234,7 +234,7 @@ numbers =
     -- row 1, odd, 1228800 bytes
     ∷ says 5 (rowNumber 1228800 (shown 1 4194272 513) 1)
     -- clear, odd, 4194303 bytes
-    ∷ says 5 (clearNumber 4194303 (shown 1 4194272 513))
+    ∷ says 5 (screenNumber 4194303 (shown 1 4194272 513))
     -- row 0, odd, 4194303 bytes
     ∷ says 5 (rowNumber 4194303 (shown 1 4194272 513) 0)
     -- row 0, odd, 4194303 bytes
@@ -242,7 +242,7 @@ numbers =
     -- row 1, odd, 4194303 bytes
     ∷ says 5 (rowNumber 4194303 (shown 1 4194272 513) 1)
     -- clear, odd, 4194304 bytes
-    ∷ says 5 (clearNumber 4194304 (shown 1 4194272 513))
+    ∷ says 5 (screenNumber 4194304 (shown 1 4194272 513))
     -- row 0, odd, 4194304 bytes
     ∷ says 5 (rowNumber 4194304 (shown 1 4194272 513) 0)
     -- row 0, odd, 4194304 bytes
@@ -250,7 +250,7 @@ numbers =
     -- row 1, odd, 4194304 bytes
     ∷ says 5 (rowNumber 4194304 (shown 1 4194272 513) 1)
     -- clear, odd, 4194305 bytes
-    ∷ says 3 (clearNumber 4194305 (shown 1 4194272 513))
+    ∷ says 3 (screenNumber 4194305 (shown 1 4194272 513))
     -- row 0, odd, 4194305 bytes
     ∷ says 3 (rowNumber 4194305 (shown 1 4194272 513) 0)
     -- row 0, odd, 4194305 bytes
@@ -258,7 +258,7 @@ numbers =
     -- row 1, odd, 4194305 bytes
     ∷ says 3 (rowNumber 4194305 (shown 1 4194272 513) 1)
     -- clear, odd, 41943040 bytes
-    ∷ says 3 (clearNumber 41943040 (shown 1 4194272 513))
+    ∷ says 3 (screenNumber 41943040 (shown 1 4194272 513))
     -- row 0, odd, 41943040 bytes
     ∷ says 3 (rowNumber 41943040 (shown 1 4194272 513) 0)
     -- row 0, odd, 41943040 bytes
@@ -266,25 +266,25 @@ numbers =
     -- row 1, odd, 41943040 bytes
     ∷ says 3 (rowNumber 41943040 (shown 1 4194272 513) 1)
     -- clear, 0 by 1, 4194304 bytes
-    ∷ says 5 (clearNumber 4194304 (shown 0 2000000 1))
+    ∷ says 5 (screenNumber 4194304 (shown 0 2000000 1))
     -- clear, 16 by 0, 4194304 bytes
-    ∷ says 5 (clearNumber 4194304 (shown 0 2000000 512))
+    ∷ says 5 (screenNumber 4194304 (shown 0 2000000 512))
     -- clear, 16 by 1, 4194304 bytes
-    ∷ says 0 (clearNumber 4194304 (shown 0 2000000 513))
+    ∷ says 0 (screenNumber 4194304 (shown 0 2000000 513))
     -- clear, 640 by 1, 4194304 bytes
-    ∷ says 0 (clearNumber 4194304 (shown 0 2000000 20481))
+    ∷ says 0 (screenNumber 4194304 (shown 0 2000000 20481))
     -- clear, 656 by 1, 4194304 bytes
-    ∷ says 5 (clearNumber 4194304 (shown 0 2000000 20993))
+    ∷ says 5 (screenNumber 4194304 (shown 0 2000000 20993))
     -- clear, 16 by 480, 4194304 bytes
-    ∷ says 0 (clearNumber 4194304 (shown 0 2000000 992))
+    ∷ says 0 (screenNumber 4194304 (shown 0 2000000 992))
     -- clear, 16 by 481, 4194304 bytes
-    ∷ says 5 (clearNumber 4194304 (shown 0 2000000 993))
+    ∷ says 5 (screenNumber 4194304 (shown 0 2000000 993))
     -- clear, 16 by 511, 4194304 bytes
-    ∷ says 5 (clearNumber 4194304 (shown 0 2000000 1023))
+    ∷ says 5 (screenNumber 4194304 (shown 0 2000000 1023))
     -- clear, 640 by 480, 4194304 bytes
-    ∷ says 0 (clearNumber 4194304 (shown 0 2000000 20960))
+    ∷ says 0 (screenNumber 4194304 (shown 0 2000000 20960))
     -- clear, 2048 by 480, 4194304 bytes
-    ∷ says 5 (clearNumber 4194304 (shown 0 2000000 66016))
+    ∷ says 5 (screenNumber 4194304 (shown 0 2000000 66016))
     -- triangle with a vertex at 8191, 16 by 1 at the end, 64 bytes
     ∷ says 5 (triangleNumber 64 (shown 4194240 4194272 513) (triangle (pos 8191, pos 0) (pos 0, pos 8) (pos 0, pos 0)
     (flat (pos 0)) (flat (pos 0)) (flat (pos 0)) (flat (pos 0))))

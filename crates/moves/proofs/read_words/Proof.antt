@@ -4,8 +4,8 @@ use Prim.Native.Nat.{_+_, _-_, _≤_}
 use mathlib.Core.Path.{_≡_, refl, sym, _∙_, ap₂}
 use native.Mathlib.Omega.{arith}
 use lib.ListN.{length, set, length-set}
-use Rattle.rules.specs.Turns.{upto}
-use Rattle.rules.proofs.Turns.{upto-none, upto-more}
+use Rattle.rules.specs.Folds.{upto}
+use Rattle.rules.proofs.Folds.{upto-none, upto-more}
 use Rattle.instructions.specs.Moves.{wordRead, wordsRead}
 use Rattle.moves.proofs.read_words.Statement.{statement}
 use Rattle.moves.proofs.read_words.Tie as tie

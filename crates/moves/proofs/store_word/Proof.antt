@@ -1,9 +1,9 @@
--- `store_word` leaves `putWord`: it stores two half-words, which is the definition. Assumes nothing.
+-- `store_word` leaves `storeWord`: it stores two half-words, which is the definition. Assumes nothing.
 use Prim.Native.Nat.{_+_, _%_}
 use mathlib.Core.Path.{_∙_, ap}
 use borrow.Author.Needs.{needs}
-use Rattle.rules.specs.Sizes.{putHalf}
-use Rattle.instructions.specs.Moves.{putWord}
+use Rattle.rules.specs.Sizes.{storeHalf}
+use Rattle.instructions.specs.Moves.{storeWord}
 use Rattle.moves.proofs.store_word.Statement.{statement}
 use Rattle.moves.proofs.store_word.Tie as tie
 
@@ -20,11 +20,11 @@ same-length : tie.Need-same-length
 same-length c = search needs
 
 returns : tie.Need-returns
-unfolding putWord
+unfolding storeWord
 returns c =
     let a = c .before .before .before .before .before .before .before .before .before .args in
     c .before .before .store-half2 .ensures
-    ∙ ap (λ m. putHalf m (a .a + 2) (a .v % 65536)) (c .before .before .before .before .before .before .store-half .ensures)
+    ∙ ap (λ m. storeHalf m (a .a + 2) (a .v % 65536)) (c .before .before .before .before .before .before .store-half .ensures)
 
 pub store-word-spec : {M : Type 1} → statement M
 store-word-spec =

@@ -4,9 +4,9 @@ use Prim.Native.Nat.{_+_, _*_, _-_, _≤_}
 use mathlib.Core.Path.{_≡_, refl, sym, _∙_, ap}
 use native.Mathlib.Omega.{arith}
 use lib.ListN.{length, getD}
-use Rattle.rules.specs.Turns.{upto}
-use Rattle.rules.proofs.Turns.{upto-none, upto-more}
-use Rattle.instructions.specs.Moves.{putWord, wordWritten, wordsWritten}
+use Rattle.rules.specs.Folds.{upto}
+use Rattle.rules.proofs.Folds.{upto-none, upto-more}
+use Rattle.instructions.specs.Moves.{storeWord, wordWritten, wordsWritten}
 use Rattle.moves.proofs.write_words.Statement.{statement}
 use Rattle.moves.proofs.write_words.Tie as tie
 
@@ -53,7 +53,7 @@ loop-again c =
       omega arith,
       s .kept .0 ∙ l .inv .1,
       s .ensures
-          ∙ ap (λ m. putWord m (a .to + 4 * l .i) (getD (a .memory .now) (a .from + l .i) 0)) (l .inv .2)
+          ∙ ap (λ m. storeWord m (a .to + 4 * l .i) (getD (a .memory .now) (a .from + l .i) 0)) (l .inv .2)
           ∙ sym (upto-more (wordWritten (a .memory .now) (a .from) (a .to)) (l .i) (a .ram .now)),
     )
 

@@ -3,13 +3,13 @@ use Prim.Native.Nat.{_+_, _*_, _-_, _≤_}
 use mathlib.Core.Path.{refl}
 use native.Mathlib.Omega.{arith}
 use borrow.Author.Needs.{needs}
-use Rattle.rules.specs.Sizes.{half}
+use Rattle.rules.specs.Sizes.{loadHalf}
 use Rattle.tree.proofs.Filled.{Filled, filled-none, filled-more, filled-all}
 use Rattle.tree.proofs.load_halves.Statement.{statement}
 use Rattle.tree.proofs.load_halves.Tie as tie
 
 abbrev Inv-loop : tie.InvT-loop
-Inv-loop ram first found₀ k₀ found k = (k ≤ 16) × Filled (λ i. half ram (first + 2 * i)) k found₀ found
+Inv-loop ram first found₀ k₀ found k = (k ≤ 16) × Filled (λ i. loadHalf ram (first + 2 * i)) k found₀ found
 
 abbrev μ-loop : tie.MeasureT-loop
 μ-loop ram first found₀ k₀ found k = 16 - k

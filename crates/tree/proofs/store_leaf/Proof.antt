@@ -1,7 +1,7 @@
 -- `store_leaf` leaves `stored`: the test on the way picks the definition's choice, and the stores are its stores. Assumes nothing.
 use mathlib.Core.Path.{_≡_, _∙_, ap}
 use mathlib.Core.Bool.{true, false}
-use Rattle.rules.specs.Sizes.{putHalf}
+use Rattle.rules.specs.Sizes.{storeHalf}
 use Rattle.tree.specs.Leaves.{stored}
 use borrow.Author.Needs.{needs}
 use Rattle.tree.proofs.store_leaf.Statement.{statement}
@@ -23,7 +23,7 @@ returns c =
     let held : a .held ≡ true = c .before .before .before .before .if1 .taken in
     rw held
     (c .before .before .store-half2 .ensures
-    ∙ ap (λ m. putHalf m (a .depth) (a .d)) (c .before .before .before .before .before .before .before .store-half .ensures))
+    ∙ ap (λ m. storeHalf m (a .depth) (a .d)) (c .before .before .before .before .before .before .before .store-half .ensures))
 
 same-length-2 : tie.Need-same-length-2
 same-length-2 c = search needs

@@ -8,7 +8,7 @@ use native.Mathlib.Omega.{arith}
 use lib.Dec.{ltb}
 use lib.ListN.{getD}
 use borrow.Author.Needs.{needs}
-use Rattle.rules.specs.Sizes.{half}
+use Rattle.rules.specs.Sizes.{loadHalf}
 use Rattle.rules.specs.Triangles.{topHalf}
 use Rattle.instructions.specs.Tree.{markI, markO, leafValue, marked, deepened, tooDeep, treeDepth}
 use Rattle.instructions.proofs.Leaves.{leaf-at, leaves-same}
@@ -20,7 +20,7 @@ use Rattle.tree.proofs.tree_depth.Tie as tie
 
 -- the value of leaf k is above the half-word at a place
 abbrev deep : List ℕ → ℕ → ℕ → ℕ → ℕ → Bool
-deep ram a b k place = ltb (half ram place) (topHalf (leafValue a b k))
+deep ram a b k place = ltb (loadHalf ram place) (topHalf (leafValue a b k))
 
 abbrev Inv-loop : tie.InvT-loop
 Inv-loop ram tree a b inside₀ outside₀ colour depth₀ first found v₀ k₀ inside outside depth v k =
@@ -33,8 +33,8 @@ Inv-loop ram tree a b inside₀ outside₀ colour depth₀ first found v₀ k₀
 abbrev μ-loop : tie.MeasureT-loop
 μ-loop ram tree a b inside₀ outside₀ colour depth₀ first found v₀ k₀ inside outside depth v k = 16 - k
 
-depth-place-requires : tie.Need-depth-place-requires Inv-loop μ-loop
-depth-place-requires c κs = search needs
+depth-at-requires : tie.Need-depth-at-requires Inv-loop μ-loop
+depth-at-requires c κs = search needs
 
 load-halves-requires : tie.Need-load-halves-requires Inv-loop μ-loop
 load-halves-requires c κs =
@@ -42,7 +42,7 @@ load-halves-requires c κs =
     let a = q .args in
     omega (
       arith,
-      depth-from (q .pre) {k = 15} (c .depth-place .ensures) (omega arith),
+      depth-from (q .pre) {k = 15} (c .depth-at .ensures) (omega arith),
       depth-leaf-fits (q .pre) {k = 15} (omega arith),
     )
 
@@ -101,10 +101,10 @@ loop-again c =
     let l = c .before .before .loop in
     let h = c .before .loop-test .taken in
     let up = l .inv .1 in
-    let first = c .before .before .before .before .depth-place .result in
+    let first = c .before .before .before .before .depth-at .result in
     let found =
     ap (λ t. getD t (l .k) 0) (c .before .before .before .load-halves .ensures)
-    ∙ leaf-at (λ i. half (a .ram .now) (first + 2 * i)) 0 h in
+    ∙ leaf-at (λ i. loadHalf (a .ram .now) (first + 2 * i)) 0 h in
     let judged = ap₂ (λ (d v : ℕ). ltb d (v / 65536)) found up in (
       omega arith,
       value-next (a .a) (a .b) (l .k) up (c .sum32 .ensures),
@@ -123,9 +123,9 @@ returns c =
     let e : l .k ≡ 16 = omega arith in
     let at : (k : ℕ)
     → k < 16
-    → deep (a .ram .now) (a .a) (a .b) k (c .before .before .before .depth-place .result + 2 * k)
+    → deep (a .ram .now) (a .a) (a .b) k (c .before .before .before .depth-at .result + 2 * k)
     ≡ tooDeep (a .s) (a .ram .now) (a .a) (a .b) t k =
-    λ k h. ap (deep (a .ram .now) (a .a) (a .b) k) (depth-from (q .pre) (c .before .before .before .depth-place .ensures) h) in
+    λ k h. ap (deep (a .ram .now) (a .a) (a .b) k) (depth-from (q .pre) (c .before .before .before .depth-at .ensures) h) in
     λ i. record {
       column = t .column;
       row = t .row;
@@ -142,7 +142,7 @@ tree-depth-spec =
     (tie.spec
     Inv-loop
     μ-loop
-    depth-place-requires
+    depth-at-requires
     load-halves-requires
     loop-holds
     sum32-requires

@@ -8,9 +8,9 @@ use mathlib.Core.List.{List}
 use native.Mathlib.Omega.{arith}
 use lib.ListN.{length}
 use borrow.Author.Needs.{needs}
-use Rattle.rules.specs.Turns.{upto, choose}
+use Rattle.rules.specs.Folds.{upto, choose}
 use Rattle.rules.specs.Sizes.{putPixel}
-use Rattle.rules.proofs.Turns.{upto-none, upto-more, upto-same}
+use Rattle.rules.proofs.Folds.{upto-none, upto-more, upto-same}
 use Rattle.instructions.specs.declared.Tree.{Tree}
 use Rattle.instructions.specs.Tree.{isPut, leafColour, leafDepth, leafPut, treePut}
 use Rattle.tree.specs.Leaves.{stored}
@@ -31,24 +31,24 @@ abbrev μ-loop : tie.MeasureT-loop
 
 -- the leaf's half-words are in the RAM
 fits : (c : tie.In-loop Inv-loop μ-loop)
-    → (c .before .before .before .colour-place .result + 2 * c .before .loop .k + 1 < length (c .before .loop .ram))
-    × (c .before .before .depth-place .result + 2 * c .before .loop .k + 1 < length (c .before .loop .ram))
+    → (c .before .before .before .colour-at .result + 2 * c .before .loop .k + 1 < length (c .before .loop .ram))
+    × (c .before .before .depth-at .result + 2 * c .before .loop .k + 1 < length (c .before .loop .ram))
 fits c =
     let q = c .before .before .before .before .before in
     let a = q .args in
     let l = c .before .loop in
     let h = c .loop-test .taken in (
-      rw (l .inv .1, colour-from (q .pre) (c .before .before .before .colour-place .ensures) h)
+      rw (l .inv .1, colour-from (q .pre) (c .before .before .before .colour-at .ensures) h)
           (colour-leaf-fits (q .pre) h),
-      rw (l .inv .1, depth-from (q .pre) (c .before .before .depth-place .ensures) h)
+      rw (l .inv .1, depth-from (q .pre) (c .before .before .depth-at .ensures) h)
           (depth-leaf-fits (q .pre) h),
     )
 
-colour-place-requires : tie.Need-colour-place-requires Inv-loop μ-loop
-colour-place-requires c κs = search needs
+colour-at-requires : tie.Need-colour-at-requires Inv-loop μ-loop
+colour-at-requires c κs = search needs
 
-depth-place-requires : tie.Need-depth-place-requires Inv-loop μ-loop
-depth-place-requires c κs = search needs
+depth-at-requires : tie.Need-depth-at-requires Inv-loop μ-loop
+depth-at-requires c κs = search needs
 
 loop-holds : tie.Need-loop-holds Inv-loop μ-loop
 loop-holds c = (omega arith, refl, sym (upto-none _ _))
@@ -98,8 +98,8 @@ put-more : (c : tie.Joined1 Inv-loop μ-loop)
     × (c .if1 .ram
     ≡ leafAt
     (c .before .before .before .before .before .before .before .before .args .t3)
-    (c .before .before .before .before .before .before .colour-place .result + 2 * c .before .before .before .before .loop .k)
-    (c .before .before .before .before .before .depth-place .result + 2 * c .before .before .before .before .loop .k)
+    (c .before .before .before .before .before .before .colour-at .result + 2 * c .before .before .before .before .loop .k)
+    (c .before .before .before .before .before .depth-at .result + 2 * c .before .before .before .before .loop .k)
     (c .before .before .before .before .loop .k)
     (c .before .before .before .before .loop .ram))
 put-more c =
@@ -119,8 +119,8 @@ loop-again c =
     let t = c .before .before .before .before .before .before .before .before .args .t3 in
     let ram = c .before .before .before .before .before .before .before .before .args .ram .now in
     let l = c .before .before .before .before .loop in
-    let colour = c .before .before .before .before .before .before .colour-place .result in
-    let depth = c .before .before .before .before .before .depth-place .result in (
+    let colour = c .before .before .before .before .before .before .colour-at .result in
+    let depth = c .before .before .before .before .before .depth-at .result in (
       omega arith,
       put-more c .0 ∙ l .inv .1,
       put-more c .1
@@ -142,8 +142,8 @@ returns c =
     (rw e at (l .inv .2))
     ∙ upto-same _ (leafPut (a .s) t) 16 (a .ram .now)
     (λ k m h. ap₂ (λ (colour depth : ℕ). leafAt t colour depth k m)
-    (colour-from (q .pre) (c .before .before .before .colour-place .ensures) h)
-    (depth-from (q .pre) (c .before .before .depth-place .ensures) h))
+    (colour-from (q .pre) (c .before .before .before .colour-at .ensures) h)
+    (depth-from (q .pre) (c .before .before .depth-at .ensures) h))
 
 pub tree-put-spec : {M : Type 1} → statement M
 tree-put-spec =
@@ -151,8 +151,8 @@ tree-put-spec =
     (tie.spec
     Inv-loop
     μ-loop
-    colour-place-requires
-    depth-place-requires
+    colour-at-requires
+    depth-at-requires
     loop-holds
     element-copy-out-if1
     element-copy-out-if1-2

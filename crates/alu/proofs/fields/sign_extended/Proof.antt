@@ -6,7 +6,7 @@ use mathlib.Core.Bool.{Bool, true, false}
 use native.Mathlib.Omega.{arith}
 use lib.Dec.{ltb}
 use borrow.Author.Tests.{ltb-true, ltb-false}
-use Rattle.rules.specs.Turns.{choose}
+use Rattle.rules.specs.Folds.{choose}
 use Rattle.instructions.specs.Words.{signExtended}
 use Rattle.instructions.specs.Arithmetic.{immediate}
 use Rattle.alu.proofs.fields.sign_extended.Statement.{statement}

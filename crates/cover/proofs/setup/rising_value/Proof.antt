@@ -5,12 +5,12 @@ use lib.IntN.{ℤ, pos, negsuc, _-ℤ_}
 use mir.Syntax.{w64}
 use Rattle.ints.proofs.Bounds.{Within}
 use Rattle.ints.proofs.Machine.{got-in, Code, known, _⊟_, need, reads-as}
-use Rattle.rules.specs.Turns.{choose}
+use Rattle.rules.specs.Folds.{choose}
 use Rattle.rules.specs.Triangles.{Edge, sample, edgeValue, keepsZero}
 use Rattle.cover.specs.Side.{edgeFrom, lossOf, sided}
 use Rattle.cover.proofs.Along.{EdgeWithin, edge-within, loss-within, read-in-range}
 use Rattle.cover.proofs.Codes as code
-use Rattle.cover.proofs.Codes.{turnedC, answeredC, answered, code-above}
+use Rattle.cover.proofs.Codes.{opposedC, answeredC, answered, code-above}
 use Rattle.cover.proofs.setup.rising_value.Statement.{statement}
 use Rattle.cover.proofs.setup.rising_value.Tie as tie
 
@@ -43,7 +43,7 @@ lowered c =
     ⊟ known (got-in {b = 1} (subst (Within 1) (sym (lost c)) (loss-within (keepsZero (edge (c .before .before))))) tt)
 
 abbrev turned : tie.After-loss → Code w64
-turned c = turnedC (lowered c)
+turned c = opposedC (lowered c)
 
 cast-dx : tie.Need-cast-dx
 cast-dx c = need (code.x2C (edge c) (in-range c)) tt

@@ -12,7 +12,7 @@ use Rattle.cover.specs.Side.{edgeFrom, acrossOf, scaleOf, downOf}
 use Rattle.cover.proofs.Along.{EdgeWithin, edge-within}
 use Rattle.cover.proofs.Codes as code
 use Rattle.cover.proofs.Codes.{code-above}
-use Rattle.cover.proofs.Turning.{down-within, down-scaled-within}
+use Rattle.cover.proofs.Crossing.{down-within, down-scaled-within}
 use Rattle.cover.proofs.setup.side.Statement.{statement}
 use Rattle.cover.proofs.setup.side.Tie as tie
 
@@ -55,7 +55,7 @@ is-down c = c .down .ensures ∙ ap₂ downOf (reads-as (dxC (c .before)) tt) (r
 small : (c : tie.Start) → Within 16384 (dx (edge c))
 small c = let w = in-range c in within-sub (w .in-x2) (w .in-x1)
 
--- as `in_parts` reads both
+-- as `in_ticks` reads both
 is-scaled : (c : tie.After-down) →
     let e = edge (c .before) in
     scaleOf (toZ w64 (word-of (dyC (c .before)))) *ℤ toZ w64 (ofZ w64 (c .down .result)) ≡ scaleOf (dy e) *ℤ downOf (dx e) (dy e)
@@ -63,8 +63,8 @@ is-scaled c =
     let e = edge (c .before) in
     code.scaled-read (dyC (c .before)) tt (is-down c) (down-within (dx e) (dy e) (small (c .before))) (omega arith)
 
-in-parts-requires : tie.Need-in-parts-requires
-in-parts-requires c κs =
+in-ticks-requires : tie.Need-in-ticks-requires
+in-ticks-requires c κs =
     let e = edge (c .before) in
     let n = ap natAbs (is-scaled c) in
     let w = down-scaled-within (dx e) (dy e) (small (c .before)) in
@@ -74,7 +74,7 @@ returns : tie.Need-returns
 returns c =
     let s = c .before .before in
     record {
-      is-down = subst₂ (λ z a. Rounded z a lift 1 (c .in-parts .result)) (is-scaled (c .before)) (ap acrossOf (reads-as (dyC s) tt)) (c .in-parts .ensures);
+      is-down = subst₂ (λ z a. Rounded z a lift 1 (c .in-ticks .result)) (is-scaled (c .before)) (ap acrossOf (reads-as (dyC s) tt)) (c .in-ticks .ensures);
       is-ends = sym (code-above (dyC s) tt refl);
     }
 
@@ -89,5 +89,5 @@ side-spec =
     cast-dy-2
     sub-dy
     down-requires
-    in-parts-requires
+    in-ticks-requires
     returns)

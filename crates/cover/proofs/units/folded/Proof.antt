@@ -9,7 +9,7 @@ use Rattle.ints.proofs.Poly.{var, con, _⊖_}
 use Rattle.ints.proofs.Order.{le-of, lt-to, ltZ-true, ltZ-false}
 use Rattle.ints.proofs.Machine.{got-arg, Code, known, need, got-of, natural-as, need-unsigned}
 use Rattle.cover.proofs.Along.{below}
-use Rattle.cover.proofs.Codes.{turnedC, read-below}
+use Rattle.cover.proofs.Codes.{opposedC, read-below}
 use Rattle.cover.proofs.units.folded.Statement.{statement}
 use Rattle.cover.proofs.units.folded.Tie as tie
 
@@ -17,7 +17,7 @@ abbrev given : tie.Start → Code w64
 given c = known (got-arg (c .fits .z) (record { within = c .pre }))
 
 abbrev turned : tie.Start → Code w64
-turned c = turnedC (given c)
+turned c = opposedC (given c)
 
 positive : (c : tie.Then1) → pos 0 ≤ℤ (negsuc 0 -ℤ c .before .args .z)
 positive c =

@@ -8,7 +8,7 @@ use lib.IntN.{ℤ, pos, negsuc, natAbs, _-ℤ_}
 use mir.Syntax.{w64}
 use mir.ValLaws.{toZ-ofZ}
 use Rattle.ints.proofs.Order.{Is, is-pos, is-negsuc, is-sub, is-nat}
-use Rattle.rules.specs.Turns.{choose}
+use Rattle.rules.specs.Folds.{choose}
 use Rattle.rules.specs.Triangles.{negative}
 use Rattle.cover.specs.Units.{Rounded}
 use Rattle.cover.proofs.Codes.{read-below}

@@ -1,4 +1,4 @@
--- The loop's invariant is `Down`, what holds before row y, and the marks of that row. Rows outside the triangle's span are skipped by its law.
+-- The loop's invariant is `Down`, what holds before row y, and the crossings of that row. Rows outside the triangle's span are skipped by its law.
 use Prim.Native.Nat.{ℕ, _+_, _-_, _≤_, _<_}
 use mathlib.Core.Path.{_≡_, sym, _∙_, subst}
 use mathlib.Core.Bool.{true}
@@ -6,11 +6,11 @@ use native.Mathlib.Nat.{zero-add}
 use native.Mathlib.Omega.{arith}
 use Rattle.rules.specs.Sizes.{width, height, sound}
 use Rattle.rules.specs.Triangles.{covered, written}
-use Rattle.rules.proofs.Turns.{pixels-le}
+use Rattle.rules.proofs.Folds.{pixels-le}
 use Rattle.rules.proofs.Pixels.{sound-facts, width-le, height-le}
-use Rattle.cover.specs.Side.{MarksOf}
-use Rattle.cover.specs.Runs.{RunOf}
-use Rattle.cover.proofs.Turning.{marks-can-go-below}
+use Rattle.cover.specs.Side.{CrossingsOf}
+use Rattle.cover.specs.Spans.{RowSpan}
+use Rattle.cover.proofs.Crossing.{crossings-can-go-below}
 use Rattle.draw.proofs.Rowed.{covered-is}
 use Rattle.draw.proofs.Framed.{Down, down-none, down-skip, down-more, down-last, length-down}
 use Rattle.draw.proofs.frames.frame.Statement.{statement}
@@ -18,7 +18,7 @@ use Rattle.draw.proofs.frames.frame.Tie as tie
 
 abbrev Inv-loop : tie.InvT-loop
 Inv-loop ram₀ s t d w end y₀ m₀ covered₀ written₀ ram y m covered written =
-    Down ram₀ s t ram y covered written × (y ≤ end) × MarksOf t y m
+    Down ram₀ s t ram y covered written × (y ≤ end) × CrossingsOf t y m
 
 abbrev μ-loop : tie.MeasureT-loop
 μ-loop ram₀ s t d w end y₀ m₀ covered₀ written₀ ram y m covered written = end - y
@@ -39,8 +39,8 @@ height-requires c κs = tt
 touched-rows-requires : tie.Need-touched-rows-requires Inv-loop μ-loop
 touched-rows-requires c κs = c .before .before .before .before .pre .in-range
 
-marks-at-requires : tie.Need-marks-at-requires Inv-loop μ-loop
-marks-at-requires c κs =
+crossings-at-requires : tie.Need-crossings-at-requires Inv-loop μ-loop
+crossings-at-requires c κs =
     let q = c .before .before .before .before .before in
     let r = c .touched-rows .ensures in (
       q .pre .in-range,
@@ -59,11 +59,11 @@ loop-holds c =
           (omega (arith, r .ensures .ordered, r .ensures .limited))
           (λ x j h k. r .ensures .before x j (omega (arith, r .ensures .ordered, r .ensures .limited)) (omega arith))),
       r .ensures .ordered,
-      c .marks-at .ensures,
+      c .crossings-at .ensures,
     )
 
-run-of-requires : tie.Need-run-of-requires Inv-loop μ-loop
-run-of-requires c κs = omega (arith, c .before .before .before .before .before .width .ensures, width-le (sound-facts (c .before .before .before .before .before .before .before .before .pre .is-sound)))
+row-span-requires : tie.Need-row-span-requires Inv-loop μ-loop
+row-span-requires c κs = omega (arith, c .before .before .before .before .before .width .ensures, width-le (sound-facts (c .before .before .before .before .before .before .before .before .pre .is-sound)))
 
 row-requires : tie.Need-row-requires Inv-loop μ-loop
 row-requires c κs =
@@ -72,9 +72,9 @@ row-requires c κs =
     let l = c .before .before .before .loop in
     let w = c .before .before .before .before .before .before .before .width in
     let row = on-screen (c .before .before) in
-    let r : RunOf (a .t) (l .y) (width (a .s .size)) (c .before .run-of .result) =
-    subst (λ (n : ℕ). RunOf (a .t) (l .y) n (c .before .run-of .result)) (w .ensures)
-    (c .before .run-of .ensures (a .t) (l .y) (q .pre .in-range) (omega (arith, row, height-le (sound-facts (q .pre .is-sound))))
+    let r : RowSpan (a .t) (l .y) (width (a .s .size)) (c .before .row-span .result) =
+    subst (λ (n : ℕ). RowSpan (a .t) (l .y) n (c .before .row-span .result)) (w .ensures)
+    (c .before .row-span .ensures (a .t) (l .y) (q .pre .in-range) (omega (arith, row, height-le (sound-facts (q .pre .is-sound))))
     (c .before .before .before .before .before .before .before .before .sides .ensures) (l .inv .2)) in
     record {
       is-sound =
@@ -87,16 +87,16 @@ row-requires c κs =
       run = λ x h. covered-is (a .t) (a .s) (record { across = h; down = row }) ∙ r .run x h;
     }
 
-marks-below-requires : tie.Need-marks-below-requires Inv-loop μ-loop
-marks-below-requires c κs =
+crossings-below-requires : tie.Need-crossings-below-requires Inv-loop μ-loop
+crossings-below-requires c κs =
     let q = c .before .before .before .before .before .before .before .before .before .before .before .before .before in
     let l = c .before .before .before .before .before .before .loop in
     let d = c .before .before .before .before .before .before .before .before .before .before .before .sides in
-    marks-can-go-below (q .args .t) (q .pre .in-range) (l .y) (omega (arith, on-screen (c .before .before .before .before .before), height-le (sound-facts (q .pre .is-sound))))
+    crossings-can-go-below (q .args .t) (q .pre .in-range) (l .y) (omega (arith, on-screen (c .before .before .before .before .before), height-le (sound-facts (q .pre .is-sound))))
     (d .result) (l .m) (d .ensures) (l .inv .2)
 
 -- what holds once the row is drawn
-one-more : (c : tie.After-marks-below Inv-loop μ-loop) →
+one-more : (c : tie.After-crossings-below Inv-loop μ-loop) →
     let a = c .before .before .before .before .before .before .before .before .before .before .before .before .before .before .args in
     let l = c .before .before .before .before .before .before .before .loop in
     let w = c .before .before .before .row in
@@ -137,7 +137,7 @@ loop-again c =
     let l = c .before .before .before .before .before .before .before .before .before .loop in (
       one-more (c .before .before),
       omega (arith, c .before .before .before .before .before .before .before .before .loop-test .taken),
-      c .before .before .marks-below .ensures (a .t) (l .y) (c .before .before .before .before .before .before .before .before .before .before .before .before .before .before .sides .ensures) (l .inv .2),
+      c .before .before .crossings-below .ensures (a .t) (l .y) (c .before .before .before .before .before .before .before .before .before .before .before .before .before .before .sides .ensures) (l .inv .2),
     )
 
 same-length : tie.Need-same-length Inv-loop μ-loop
@@ -169,11 +169,11 @@ frame-spec =
     width-requires
     height-requires
     touched-rows-requires
-    marks-at-requires
+    crossings-at-requires
     loop-holds
-    run-of-requires
+    row-span-requires
     row-requires
-    marks-below-requires
+    crossings-below-requires
     add-covered
     add-written
     add-y

@@ -4,7 +4,7 @@ use mathlib.Core.Path.{sym, _∙_, ap, subst}
 use mathlib.Core.List.{List}
 use native.Mathlib.Nat.{add-zero}
 use borrow.Author.Tests.{le-leb, lt-leb}
-use Rattle.rules.specs.Sizes.{putHalf}
+use Rattle.rules.specs.Sizes.{storeHalf}
 use Rattle.rules.specs.Triangles.{topHalf}
 use borrow.Author.Needs.{needs}
 use Rattle.draw.proofs.pixels.pixel.Statement.{statement}
@@ -47,8 +47,8 @@ returns-2 c =
       counts = rw f;
       leaves = rw f
           (c .before .before .store-half2 .ensures
-          ∙ ap (λ (m : List ℕ). putHalf m (a .colour) (k .result)) (c .before .before .before .before .before .before .before .store-half .ensures)
-          ∙ ap (putHalf (putHalf (a .ram .now) (a .depth) (a .v .depth / 65536)) (a .colour)) (k .ensures .0));
+          ∙ ap (λ (m : List ℕ). storeHalf m (a .colour) (k .result)) (c .before .before .before .before .before .before .before .store-half .ensures)
+          ∙ ap (storeHalf (storeHalf (a .ram .now) (a .depth) (a .v .depth / 65536)) (a .colour)) (k .ensures .0));
     }
 
 pub pixel-spec : {M : Type 1} → statement M

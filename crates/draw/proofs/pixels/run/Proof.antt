@@ -30,7 +30,7 @@ turn : (c : tie.At-loop Inv-loop μ-loop) →
     Turn (a .ram .now) (a .s) (a .t) (a .from) (a .y) (l .ram) (l .i) (l .v) (l .written)
 turn c =
     let q = c .before .before .before .before .before in
-    c .loop .inv .1 (q .args .s) (q .pre) (c .before .before .before .colour-place .ensures) (c .before .before .depth-place .ensures)
+    c .loop .inv .1 (q .args .s) (q .pre) (c .before .before .before .colour-at .ensures) (c .before .before .depth-at .ensures)
 
 -- the run is no longer than a row
 short : (c : tie.In-loop Inv-loop μ-loop) → c .before .loop .i < 640
@@ -40,8 +40,8 @@ short c =
 
 -- the pixel's half-words are in the RAM
 fits : (c : tie.In-loop Inv-loop μ-loop)
-    → (c .before .before .before .before .colour-place .result + 2 * c .before .loop .i + 1 < length (c .before .loop .ram))
-    × (c .before .before .before .depth-place .result + 2 * c .before .loop .i + 1 < length (c .before .loop .ram))
+    → (c .before .before .before .before .colour-at .result + 2 * c .before .loop .i + 1 < length (c .before .loop .ram))
+    × (c .before .before .before .depth-at .result + 2 * c .before .loop .i + 1 < length (c .before .loop .ram))
     × (length (c .before .loop .ram) ≡ length (c .before .before .before .before .before .before .args .ram .now))
 fits c =
     let q = c .before .before .before .before .before .before in
@@ -49,18 +49,18 @@ fits c =
     let k = sound-facts (q .pre .is-sound) in
     let p = on-screen _ _ _ _ _ _ _ _ _ (turn (c .before)) (a .to) (q .pre) (c .loop-test .taken) in
     let e = length-now _ _ _ _ _ _ _ _ _ (turn (c .before)) in
-    let i = colour-from (a .s) (a .from) (a .y) (c .before .loop .i) (c .before .before .before .before .colour-place .ensures) in
-    let j = depth-from (a .s) (a .from) (a .y) (c .before .loop .i) (c .before .before .before .depth-place .ensures) in (
+    let i = colour-from (a .s) (a .from) (a .y) (c .before .loop .i) (c .before .before .before .before .colour-at .ensures) in
+    let j = depth-from (a .s) (a .from) (a .y) (c .before .loop .i) (c .before .before .before .depth-at .ensures) in (
       subst₂ (λ (m n : ℕ). m + 1 < n) (sym i) (sym e) (colour-fits k p),
       subst₂ (λ (m n : ℕ). m + 1 < n) (sym j) (sym e) (depth-fits k p),
       e,
     )
 
-colour-place-requires : tie.Need-colour-place-requires Inv-loop μ-loop
-colour-place-requires c κs = tt
+colour-at-requires : tie.Need-colour-at-requires Inv-loop μ-loop
+colour-at-requires c κs = tt
 
-depth-place-requires : tie.Need-depth-place-requires Inv-loop μ-loop
-depth-place-requires c κs = tt
+depth-at-requires : tie.Need-depth-at-requires Inv-loop μ-loop
+depth-at-requires c κs = tt
 
 tints-at-requires : tie.Need-tints-at-requires Inv-loop μ-loop
 tints-at-requires c κs = tt
@@ -131,8 +131,8 @@ run-spec =
     (tie.spec
     Inv-loop
     μ-loop
-    colour-place-requires
-    depth-place-requires
+    colour-at-requires
+    depth-at-requires
     tints-at-requires
     sub-count
     loop-holds

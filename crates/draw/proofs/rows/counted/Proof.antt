@@ -3,8 +3,8 @@ use Prim.Native.Nat.{_+_, _-_, _%_}
 use mathlib.Core.Path.{_≡_, ap}
 use native.Mathlib.Omega.{arith}
 use lib.Count.{ones}
-use Rattle.cover.proofs.Columns.{run-many}
-use Rattle.draw.proofs.Counting.{run-ones, in-group}
+use Rattle.cover.proofs.Columns.{span-many}
+use Rattle.draw.proofs.Counting.{span-ones, in-group}
 use Rattle.draw.proofs.rows.counted.Statement.{statement}
 use Rattle.draw.proofs.rows.counted.Tie as tie
 
@@ -40,7 +40,7 @@ more c =
       arith,
       c .before .before .before .loop .inv,
       ap ones (c .leaves-mask .ensures),
-      run-ones (c .before .before .before .loop .a % 16) (c .before .lesser .result) (g .0) (c .before .lesser .ensures .0),
+      span-ones (c .before .before .before .loop .a % 16) (c .before .lesser .result) (g .0) (c .before .lesser .ensures .0),
       g,
     )
 
@@ -62,7 +62,7 @@ loop-again c = more c
 returns : tie.Need-returns Inv-loop μ-loop
 returns c =
     let q = c .before .before in
-    omega (arith, c .before .loop .inv, c .loop-test .left, run-many (q .args .from) (q .args .to) (q .args .to) (q .pre .0) (omega arith))
+    omega (arith, c .before .loop .inv, c .loop-test .left, span-many (q .args .from) (q .args .to) (q .args .to) (q .pre .0) (omega arith))
 
 pub counted-spec : {M : Type 1} → statement M
 counted-spec =

@@ -5,7 +5,7 @@ use mathlib.Core.Path.{_≡_, _∙_, ap}
 use native.Mathlib.Omega.{arith}
 use lib.ListN.{length, length-set}
 use borrow.Author.Needs.{needs}
-use Rattle.rules.specs.Sizes.{putHalf}
+use Rattle.rules.specs.Sizes.{storeHalf}
 use Rattle.screen.specs.Fills.{filled}
 use Rattle.screen.proofs.Fills.{filledTo, filled-none, filled-more, length-filled}
 use Rattle.screen.proofs.clear.fill.Statement.{statement}
@@ -59,12 +59,12 @@ loop-less : tie.Need-loop-less Inv-loop μ-loop
 loop-less c = omega arith
 
 loop-again : tie.Need-loop-again Inv-loop μ-loop
-unfolding putHalf
+unfolding storeHalf
 loop-again c = (
   omega arith,
   omega arith,
   omega arith,
-  ap (λ m. putHalf m (c .before .loop .a) (c .before .before .args .v)) (c .before .loop .inv .3)
+  ap (λ m. storeHalf m (c .before .loop .a) (c .before .before .args .v)) (c .before .loop .inv .3)
       ∙ filled-more _ _ _ _ (c .before .loop .inv .0) (c .before .loop .inv .2),
 )
 

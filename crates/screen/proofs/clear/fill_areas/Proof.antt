@@ -2,7 +2,7 @@
 use native.Mathlib.Omega.{arith}
 use lib.ListN.{length}
 use borrow.Author.Needs.{needs}
-use Rattle.rules.proofs.Places.{sound-facts, Areas}
+use Rattle.rules.proofs.Strips.{sound-facts, Areas}
 use Rattle.screen.proofs.Fills.{areas-filled}
 use Rattle.screen.proofs.clear.fill_areas.Statement.{statement}
 use Rattle.screen.proofs.clear.fill_areas.Tie as tie

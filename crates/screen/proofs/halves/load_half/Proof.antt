@@ -4,7 +4,7 @@ use Prim.Native.Nat.{_+_}
 use mathlib.Core.Path.{refl}
 use native.Mathlib.Omega.{arith}
 use borrow.Author.Needs.{needs}
-use Rattle.rules.specs.Sizes.{half}
+use Rattle.rules.specs.Sizes.{loadHalf}
 use Rattle.screen.proofs.halves.load_half.Statement.{statement}
 use Rattle.screen.proofs.halves.load_half.Tie as tie
 
@@ -35,7 +35,7 @@ add-result-2 c =
     )
 
 returns : tie.Need-returns
-unfolding half
+unfolding loadHalf
 returns c =
     record {
       value = refl;

@@ -1,7 +1,7 @@
--- `halves::store_half` leaves `putHalf`: its two stores are that definition's two. Assumes nothing.
+-- `halves::store_half` leaves `storeHalf`: its two stores are that definition's two. Assumes nothing.
 use mathlib.Core.Path.{refl}
 use borrow.Author.Needs.{needs}
-use Rattle.rules.specs.Sizes.{putHalf}
+use Rattle.rules.specs.Sizes.{storeHalf}
 use Rattle.screen.proofs.halves.store_half.Statement.{statement}
 use Rattle.screen.proofs.halves.store_half.Tie as tie
 
@@ -24,7 +24,7 @@ same-length : tie.Need-same-length
 same-length c = search needs
 
 returns : tie.Need-returns
-unfolding putHalf
+unfolding storeHalf
 returns c = refl
 
 pub store-half-spec : {M : Type 1} → statement M

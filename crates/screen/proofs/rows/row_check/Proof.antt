@@ -4,7 +4,7 @@ use mathlib.Core.Path.{_≡_, _∙_, ap}
 use lib.Dec.{ltb}
 use lib.ListN.{length}
 use borrow.Author.Needs.{needs}
-use Rattle.rules.specs.Turns.{choose}
+use Rattle.rules.specs.Folds.{choose}
 use Rattle.rules.specs.Numbers.{rowNumber}
 use Rattle.screen.proofs.Tests.{chosen, other}
 use Rattle.screen.proofs.rows.row_check.Statement.{statement}

@@ -10,8 +10,8 @@ row-check-requires c κs = search needs
 returns : tie.Need-returns
 returns c = refused _ _ _ _ (c .before .row-check .ensures) (c .if1 .taken)
 
-colour-place-requires : tie.Need-colour-place-requires
-colour-place-requires c κs = search needs
+colour-at-requires : tie.Need-colour-at-requires
+colour-at-requires c κs = search needs
 
 width-requires : tie.Need-width-requires
 width-requires c κs = search needs
@@ -27,7 +27,7 @@ returns-2 c =
     found _ _ _ _ _ _
     (c .before .before .before .row-check .ensures)
     (c .before .before .if1 .left)
-    (c .before .colour-place .ensures)
+    (c .before .colour-at .ensures)
     (c .width .ensures)
 
 pub row-part-spec : {M : Type 1} → statement M
@@ -36,7 +36,7 @@ row-part-spec =
     (tie.spec
     row-check-requires
     returns
-    colour-place-requires
+    colour-at-requires
     width-requires
     cast-t9
     mul-t10

@@ -2,7 +2,7 @@
 use mathlib.Core.Bool.{not}
 use mathlib.Core.Path.{sym, _∙_, ap}
 use borrow.Author.Needs.{needs}
-use Rattle.rules.specs.Numbers.{clearNumber}
+use Rattle.rules.specs.Numbers.{screenNumber}
 use Rattle.screen.proofs.Tests.{chosen, other}
 use Rattle.screen.proofs.sizes.screen_number.Statement.{statement}
 use Rattle.screen.proofs.sizes.screen_number.Tie as tie
@@ -14,17 +14,17 @@ sound-requires : tie.Need-sound-requires
 sound-requires c κs = search needs
 
 returns : tie.Need-returns
-unfolding clearNumber
+unfolding screenNumber
 returns c = chosen _ _ _ (sym (c .before .too-long .ensures) ∙ c .if1 .taken)
 
 returns-2 : tie.Need-returns-2
-unfolding clearNumber
+unfolding screenNumber
 returns-2 c =
     other _ 5 0 (ap not (sym (c .before .sound .ensures) ∙ c .if2 .taken))
     ∙ other _ 3 _ (sym (c .before .before .before .too-long .ensures) ∙ c .before .before .if1 .left)
 
 returns-3 : tie.Need-returns-3
-unfolding clearNumber
+unfolding screenNumber
 returns-3 c =
     chosen _ 5 0 (ap not (sym (c .before .sound .ensures) ∙ c .if2 .left))
     ∙ other _ 3 _ (sym (c .before .before .before .too-long .ensures) ∙ c .before .before .if1 .left)

@@ -5,7 +5,7 @@ use mathlib.Core.Bool.{_&&_}
 use lib.Dec.{leb}
 use borrow.Author.Needs.{needs}
 use Rattle.rules.specs.Sizes.{groups, height, sizeInRange}
-use Rattle.screen.specs.Places.{between}
+use Rattle.screen.specs.Areas.{between}
 use Rattle.screen.proofs.Tests.{and-true, and-false, and-assoc}
 use Rattle.screen.proofs.sizes.size_in_range.Statement.{statement}
 use Rattle.screen.proofs.sizes.size_in_range.Tie as tie

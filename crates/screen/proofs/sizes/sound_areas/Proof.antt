@@ -5,7 +5,7 @@ use native.Mathlib.Omega.{arith}
 use borrow.Author.Tests.{not-true, not-false}
 use borrow.Author.Needs.{needs}
 use Rattle.rules.specs.Sizes.{area, soundAreas}
-use Rattle.screen.specs.Places.{areasFit, areasApart, evenStarts}
+use Rattle.screen.specs.Areas.{areasFit, areasApart, evenStarts}
 use Rattle.screen.proofs.Bounds.{area-small}
 use Rattle.screen.proofs.Tests.{and-true, and-false, first-fails, first-passes}
 use Rattle.screen.proofs.sizes.sound_areas.Statement.{statement}

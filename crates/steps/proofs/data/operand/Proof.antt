@@ -1,7 +1,7 @@
 -- The test is `takesImm` of the opcode, and each arm is its choice.
 use mathlib.Core.Path.{sym, _∙_, ap}
 use denote.Ref.{now}
-use Rattle.rules.specs.Turns.{choose}
+use Rattle.rules.specs.Folds.{choose}
 use Rattle.instructions.specs.Words.{imm, inR3}
 use Rattle.instructions.specs.Arithmetic.{takesImm}
 use borrow.Author.Needs.{needs}

@@ -8,7 +8,7 @@ use lib.ListN.{length}
 use borrow.Author.Tests.{le-ltb}
 use Rattle.rules.specs.declared.Screen.{Screen}
 use Rattle.rules.specs.Sizes.{ramLimit}
-use Rattle.rules.specs.Numbers.{clearNumber}
+use Rattle.rules.specs.Numbers.{screenNumber}
 use Rattle.instructions.specs.declared.Tree.{Tree}
 use Rattle.instructions.specs.Opcodes.{SCRSET, CLS, TREESET, TREEIN, TREEVAL, TREEPUT}
 use Rattle.instructions.specs.Words.{opcode, inR3}
@@ -26,8 +26,8 @@ no-halt : (c : tie.Start) → NoHalt (length (now (c .args .ram))) (seen (now (c
 no-halt c = word-goes-on (length (now (c .args .ram))) (seen (now (c .args .regs)) (c .args .view)) (c .args .w) (c .pre .1)
 
 -- the screen is one that a clear accepts
-accepts : (c : tie.Start) → c .args .view .shown ≡ true → clearNumber (length (now (c .args .ram))) (c .args .view .screen) ≡ 0
-unfolding clearNumber
+accepts : (c : tie.Start) → c .args .view .shown ≡ true → screenNumber (length (now (c .args .ram))) (c .args .view .screen) ≡ 0
+unfolding screenNumber
 accepts c h = rw (le-ltb ramLimit (length (now (c .args .ram))) (c .pre .0 .shows .limit), c .pre .0 .shows .screenSound h)
 
 placed : (c : tie.Start) → c .args .view .planted ≡ true → Placed (length (now (c .args .ram))) (c .args .view .screen) (c .args .view .tree)

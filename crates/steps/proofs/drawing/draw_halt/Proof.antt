@@ -5,7 +5,7 @@ use mathlib.Core.Bool.{Bool, _||_, not}
 use native.Mathlib.Omega.{arith}
 use denote.Ref.{now}
 use lib.Dec.{ltb}
-use Rattle.rules.specs.Turns.{choose}
+use Rattle.rules.specs.Folds.{choose}
 use Rattle.rules.specs.Sizes.{sound}
 use Rattle.instructions.specs.declared.State.{State}
 use Rattle.instructions.specs.Opcodes.{SCRSET, CLS, TREESET, TREEIN, TREEVAL, TREEPUT}

@@ -6,7 +6,7 @@ use native.Mathlib.Omega.{arith}
 use denote.Ref.{now}
 use lib.Dec.{ltb, eqb}
 use borrow.Author.Tests.{lt-ltb, le-ltb}
-use Rattle.rules.specs.Turns.{choose}
+use Rattle.rules.specs.Folds.{choose}
 use Rattle.instructions.specs.Words.{inR1, inR2}
 use Rattle.steps.specs.Steps.{memoryHalt}
 use Rattle.steps.proofs.RowLaws.{rows-word, rows-none, rows-DOT, rows-move}

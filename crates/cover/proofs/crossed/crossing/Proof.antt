@@ -1,0 +1,69 @@
+-- The rising value, scaled, is within 64 bits, and its quotient has one rounding.
+use Prim.Native.Nat.{_+_}
+use mathlib.Core.Path.{_≡_, _∙_, ap, subst₂}
+use native.Mathlib.Omega.{arith}
+use lib.IntN.{natAbs, _*ℤ_}
+use mir.Syntax.{w64}
+use mir.Val.{toZ, ofZ}
+use Rattle.ints.proofs.Machine.{Code, word-of, need, reads-as, size-of}
+use Rattle.rules.specs.Triangles.{Edge, dy}
+use Rattle.cover.specs.Units.{raise, Rounded}
+use Rattle.cover.specs.Side.{edgeFrom, rising, acrossOf, scaleOf}
+use Rattle.cover.proofs.Along.{EdgeWithin, edge-within, read-edge, read-in-range}
+use Rattle.cover.proofs.Codes as code
+use Rattle.cover.proofs.Quotients.{rounded-more}
+use Rattle.cover.proofs.Crossing.{rising-within, scaled-within}
+use Rattle.cover.proofs.crossed.crossing.Statement.{statement}
+use Rattle.cover.proofs.crossed.crossing.Tie as tie
+
+abbrev edge : tie.Start → Edge
+edge c = edgeFrom (c .args .x1) (c .args .y1) (c .args .x2) (c .args .y2)
+
+in-range : (c : tie.Start) → EdgeWithin (edge c)
+in-range c = edge-within (edge c) (c .pre .0)
+
+abbrev dyC : tie.Start → Code w64
+dyC c = code.dyC (edge c) (in-range c)
+
+cast-dy : tie.Need-cast-dy
+cast-dy c = need (code.y2C (edge c) (in-range c)) tt
+
+cast-dy-2 : tie.Need-cast-dy-2
+cast-dy-2 c = need (code.y1C (edge c) (in-range c)) tt
+
+sub-dy : tie.Need-sub-dy
+sub-dy c = need (dyC c) tt
+
+rising-value-requires : tie.Need-rising-value-requires
+rising-value-requires c κs = (read-in-range (edge c) (c .pre .0), c .pre .1)
+
+is-rising : (c : tie.After-rising-value) → c .rising-value .result ≡ rising (edge (c .before)) 0 (c .before .args .y)
+is-rising c =
+    let s = c .before in
+    c .rising-value .ensures ∙ ap (λ (e : Edge). rising e 0 (s .args .y)) (read-edge (edge s) (s .pre .0))
+
+-- as `in_ticks` reads both
+is-scaled : (c : tie.After-rising-value) →
+    let s = c .before in
+    scaleOf (toZ w64 (word-of (dyC s))) *ℤ toZ w64 (ofZ w64 (c .rising-value .result)) ≡ scaleOf (dy (edge s)) *ℤ rising (edge s) 0 (s .args .y)
+is-scaled c =
+    let s = c .before in
+    code.scaled-read (dyC s) tt (is-rising c) (rising-within (edge s) (in-range s) (s .args .y) (s .pre .1)) (omega arith)
+
+in-ticks-requires : tie.Need-in-ticks-requires
+in-ticks-requires c κs =
+    let s = c .before in
+    let n = ap natAbs (is-scaled c) in
+    let w = scaled-within (edge s) (in-range s) (s .args .y) (s .pre .1) in
+    (size-of (dyC s) tt, record { fits = omega (arith, n, w .within); below = omega (arith, n, w .within); most = omega arith })
+
+returns : tie.Need-returns
+returns c =
+    let s = c .before .before in
+    rounded-more
+    (subst₂ (λ z a. Rounded z a raise 1 (c .in-ticks .result)) (is-scaled (c .before)) (ap acrossOf (reads-as (dyC s) tt)) (c .in-ticks .ensures))
+    (s .args .y + 1) (omega arith)
+
+pub crossing-spec : {M : Type 1} → statement M
+crossing-spec =
+    tie.close (tie.spec cast-dy cast-dy-2 sub-dy rising-value-requires in-ticks-requires returns)

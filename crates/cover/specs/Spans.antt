@@ -1,0 +1,32 @@
+-- Runs of columns, and which one is a row's.
+use Prim.Native.Nat.{ℕ, _+_, _-_, _/_, _≤_, _<_}
+use mathlib.Core.Path.{_≡_}
+use mathlib.Core.Bool.{Bool, _&&_}
+use lib.Dec.{ltb, leb}
+use Rattle.rules.specs.declared.Triangle.{Triangle}
+use Rattle.rules.specs.Folds.{choose}
+use Rattle.rules.specs.Triangles.{sample, insideAll}
+use Rattle.cover.specs.declared.Span.{Span}
+use Rattle.cover.specs.Units.{unit, raise}
+
+-- columns from `from` up to but not including `to`
+abbrev pub inSpan : ℕ → ℕ → ℕ → Bool
+inSpan from to x = leb from x && ltb x to
+
+-- of two crossings, the one whose column is further right; one where the inside ends does not count
+abbrev pub begun : ℕ → Bool → ℕ → ℕ
+begun crossing ends least = choose ends least (choose (ltb crossing least) crossing least)
+
+-- the one further left; one where the inside begins does not count
+abbrev pub ended : ℕ → Bool → ℕ → ℕ
+ended crossing ends most = choose ends (choose (ltb most crossing) crossing most) most
+
+-- the first column that is not before a crossing
+abbrev pub columnOf : ℕ → ℕ
+columnOf crossing = (raise - crossing + (unit - 1)) / unit
+
+-- the pixels of row y inside all three edges, among the first w, are those of the columns r
+pub record RowSpan (t : Triangle) (y w : ℕ) (r : Span) : Type 0 where
+  pub ordered : r .from ≤ r .to
+  pub limited : r .to ≤ w
+  pub run : (x : ℕ) → x < w → insideAll t (sample x y) ≡ inSpan (r .from) (r .to) x

@@ -1,0 +1,47 @@
+// The three edges' crossings, from row to row.
+use crate::Crossings;
+use crate::Sides;
+use crate::setup::rising_value;
+use crate::ticks::in_ticks;
+use crate::units::LIFT;
+use crate::units::RAISE;
+use rules::Triangle;
+ghost use mathlib.Core.Path.{_≡_};
+ghost use mathlib.Core.Bool.{true};
+ghost use Prim.Native.Nat.{ℕ, _+_, _≤_};
+ghost use Rattle.rules.specs.declared.Triangle.{Triangle};
+ghost use Rattle.rules.specs.Numbers.{verticesInRange};
+ghost use Rattle.cover.specs.Side.{edgeFrom, edgeInRange, SidesOf, CrossingOf, CrossingsOf, CanGoBelow};
+
+// An edge's crossing in row y.
+fn crossing(x1: i32, y1: i32, x2: i32, y2: i32, y: u32) -> u64
+    requires { ⌜ (edgeInRange (edgeFrom x1 y1 x2 y2) ≡ true) × (y ≤ 512) ⌝ }
+    ensures { λ r. ⌜ CrossingOf (edgeFrom x1 y1 x2 y2) y r ⌝ }
+{
+    let dy = y2 as i64 - y1 as i64;
+    in_ticks(rising_value(x1, y1, x2, y2, y), dy, RAISE)
+}
+
+// The crossings in row y.
+pub fn crossings_at(t: Triangle, y: u32) -> Crossings
+    requires { ⌜ (verticesInRange t ≡ true) × (y ≤ 512) ⌝ }
+    ensures { λ r. ⌜ CrossingsOf t y r ⌝ }
+{
+    Crossings {
+        p: crossing(t.x1, t.y1, t.x2, t.y2, y),
+        q: crossing(t.x2, t.y2, t.x3, t.y3, y),
+        r: crossing(t.x3, t.y3, t.x1, t.y1, y),
+    }
+}
+
+// The crossings in the row below.
+pub fn crossings_below(m: Crossings, d: Sides) -> Crossings
+    requires { ⌜ CanGoBelow m d ⌝ }
+    ensures { λ r. ⌜ ((t : Triangle) (y : ℕ) → SidesOf t d → CrossingsOf t y m → CrossingsOf t (y + 1) r) ⌝ }
+{
+    Crossings {
+        p: m.p + d.p.down - LIFT,
+        q: m.q + d.q.down - LIFT,
+        r: m.r + d.r.down - LIFT,
+    }
+}
