@@ -11,12 +11,13 @@ use lib.ListN.{length}
 use Rattle.rules.specs.declared.Screen.{Screen}
 use Rattle.rules.specs.declared.Triangle.{Triangle}
 use Rattle.rules.specs.Folds.{bit, howMany, choose}
-use Rattle.rules.specs.Sizes.{colourAt, depthAt, loadHalf, storeHalf, putPixel}
+use Rattle.ram.specs.Ram.{loadHalf, storeHalf}
+use Rattle.rules.specs.Sizes.{colourAt, depthAt, putPixel}
 use Rattle.rules.specs.Triangles.{topHalf, packed, triangleDepth, triangleColour, written, pixelDrawn}
 use Rattle.rules.proofs.Folds.{upto-none, upto-more, howMany-none, howMany-more, howMany-le}
 use Rattle.rules.proofs.Strips.{colour-in-area, depth-in-area}
 use Rattle.rules.proofs.Pixels.{Sound, On, sound-facts, width-le, colour-depth-apart}
-use Rattle.rules.proofs.Halves.{apart-sym, storeHalf-comm}
+use Rattle.ram.proofs.Halves.{apart-sym, storeHalf-comm}
 use Rattle.draw.specs.declared.Tints.{Tints}
 use Rattle.draw.specs.Planes.{tintsAt, tintSteps, tintsMoved}
 use Rattle.draw.specs.Pixels.{passes, PixelDone, RunAsked, RunDone}

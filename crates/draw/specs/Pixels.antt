@@ -7,7 +7,8 @@ use lib.Dec.{leb}
 use Rattle.rules.specs.declared.Screen.{Screen}
 use Rattle.rules.specs.declared.Triangle.{Triangle}
 use Rattle.rules.specs.Folds.{upto, bit, howMany, choose}
-use Rattle.rules.specs.Sizes.{width, height, sound, loadHalf, storeHalf}
+use Rattle.ram.specs.Ram.{loadHalf, storeHalf}
+use Rattle.rules.specs.Sizes.{width, height, sound}
 use Rattle.rules.specs.Triangles.{topHalf, packed, covered, written, pixelDrawn}
 use Rattle.draw.specs.declared.Tints.{Tints}
 

@@ -9,10 +9,11 @@ use Rattle.rules.specs.Folds.{upto}
 use Rattle.rules.specs.Sizes.{width, height, putPixel}
 use Rattle.rules.specs.Calls.{cleared}
 use Rattle.rules.proofs.Folds.{upto-keeps}
-use Rattle.rules.proofs.Halves.{length-storeHalf}
+use Rattle.ram.proofs.Halves.{length-storeHalf}
 use Rattle.rules.proofs.Pixels.{length-putPixel}
 use Rattle.instructions.specs.declared.Tree.{Tree}
-use Rattle.instructions.specs.Moves.{storeWord, wordRead, wordsRead, wordWritten, wordsWritten}
+use Rattle.ram.proofs.Words.{length-storeWord}
+use Rattle.instructions.specs.Moves.{wordRead, wordsRead, wordWritten, wordsWritten}
 use Rattle.instructions.specs.Tree.{maskBit, treeSet, marked, treeIn, deepened, treeDepth, treeColour, treeVal, isPut, leafPut, treePut}
 use Rattle.instructions.specs.Halts.{wordAt}
 use Rattle.instructions.specs.Step.{Machine, withRegisters, withPlace, withFlags, withHalt, withScreen, withTree, afterResult, afterST, afterCALL, afterREAD, afterWRITE, afterSCRSET, afterCLS, afterTREESET, grown, afterTREEIN, afterTREEVAL, afterTREEPUT, effect, performed, isHalted, nextHalt, step}
@@ -22,28 +23,24 @@ use Rattle.instructions.proofs.Leaves.{length-each}
 use Rattle.instructions.proofs.Registers.{length-write}
 use Rattle.instructions.proofs.Effects.{effect-has}
 
-pub length-storeWord : (l : List ℕ) (a v : ℕ) → length (storeWord l a v) ≡ length l
-unfolding storeWord
-length-storeWord l a v = simp length-storeHalf
-
-length-turns : (f : ℕ → List ℕ → List ℕ) (n : ℕ) (l : List ℕ)
+length-upto : (f : ℕ → List ℕ → List ℕ) (n : ℕ) (l : List ℕ)
     → ((i : ℕ) (k : List ℕ) → length (f i k) ≡ length k)
     → length (upto f n l) ≡ length l
-length-turns f n l h = upto-keeps f (λ k. length k ≡ length l) n l (λ i k b e. h i k ∙ e) refl
+length-upto f n l h = upto-keeps f (λ k. length k ≡ length l) n l (λ i k b e. h i k ∙ e) refl
 
 pub length-wordsRead : (ram : List ℕ) (to from : ℕ) (memory : List ℕ) → length (wordsRead ram to from memory) ≡ length memory
 unfolding wordsRead wordRead
-length-wordsRead ram to from memory = length-turns (wordRead ram to from) 16 memory (λ i k. length-set k _ _)
+length-wordsRead ram to from memory = length-upto (wordRead ram to from) 16 memory (λ i k. length-set k _ _)
 
 pub length-wordsWritten : (memory : List ℕ) (from to : ℕ) (ram : List ℕ) → length (wordsWritten memory from to ram) ≡ length ram
 unfolding wordsWritten wordWritten
-length-wordsWritten memory from to ram = length-turns (wordWritten memory from to) 16 ram (λ i k. length-storeWord k _ _)
+length-wordsWritten memory from to ram = length-upto (wordWritten memory from to) 16 ram (λ i k. length-storeWord k _ _)
 
 pub length-cleared : (s : Screen) (colour depth : ℕ) (ram : List ℕ) → length (cleared s colour depth ram) ≡ length ram
 unfolding cleared
 length-cleared s colour depth ram =
-    length-turns (λ y. upto (λ x. putPixel s x y colour depth) (width (s .size))) (height (s .size)) ram
-    (λ y k. length-turns (λ x. putPixel s x y colour depth) (width (s .size)) k (λ x l. length-putPixel s x y colour depth l))
+    length-upto (λ y. upto (λ x. putPixel s x y colour depth) (width (s .size))) (height (s .size)) ram
+    (λ y k. length-upto (λ x. putPixel s x y colour depth) (width (s .size)) k (λ x l. length-putPixel s x y colour depth l))
 
 pub length-leafPut : (s : Screen) (t : Tree) (k : ℕ) (ram : List ℕ) → length (leafPut s t k ram) ≡ length ram
 unfolding leafPut
@@ -56,7 +53,7 @@ length-leafPut s t k ram =
 
 pub length-treePut : (s : Screen) (t : Tree) (ram : List ℕ) → length (treePut s t ram) ≡ length ram
 unfolding treePut
-length-treePut s t ram = length-turns (leafPut s t) 16 ram (length-leafPut s t)
+length-treePut s t ram = length-upto (leafPut s t) 16 ram (length-leafPut s t)
 
 pub record SameLengths (m k : Machine) : Type 0 where
   pub memory : length (k .memory) ≡ length (m .memory)

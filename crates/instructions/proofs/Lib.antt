@@ -3,6 +3,7 @@ pub mod Leaves
 pub mod Registers
 pub mod Halts
 pub mod Effects
+pub mod Filled
 pub mod Lengths
 pub mod WellFormed
 pub mod Run

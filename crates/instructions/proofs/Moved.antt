@@ -8,9 +8,9 @@ use native.Mathlib.Decide.{decLt}
 use lib.ListN.{length, getD, length-set}
 use lib.Seq.{getD-set-same, getD-set-other}
 use Rattle.rules.specs.Folds.{upto}
-use Rattle.rules.specs.Sizes.{storeHalf}
-use Rattle.rules.proofs.Halves.{length-storeHalf, half-stored-same, half-stored-other, byte-stored-other}
-use Rattle.instructions.specs.Moves.{word, storeWord, wordRead, wordsRead, wordWritten, wordsWritten}
+use Rattle.ram.proofs.Words.{length-storeWord, word-stored-same, word-stored-other, byte-stored-far}
+use Rattle.ram.specs.Ram.{loadWord}
+use Rattle.instructions.specs.Moves.{wordRead, wordsRead, wordWritten, wordsWritten}
 
 -- the last of n + 1 turns, or one before it
 last : (i n : ℕ) → i < suc n → (i < n) ⊎ (i ≡ n)
@@ -23,7 +23,7 @@ last i n l = go (decLt i n)
 -- the first n words of a READ
 pub record Copied (ram : List ℕ) (to from n : ℕ) (memory after : List ℕ) : Type 0 where
   pub same-length : length after ≡ length memory
-  pub words : (i : ℕ) → i < n → getD after (to + i) 0 ≡ word ram (from + 4 * i)
+  pub words : (i : ℕ) → i < n → getD after (to + i) 0 ≡ loadWord ram (from + 4 * i)
   pub others : (k : ℕ) → (k < to) ⊎ (to + n ≤ k) → getD after k 0 ≡ getD memory k 0
 
 module _ (ram : List ℕ) (to from : ℕ) (memory : List ℕ) where
@@ -32,7 +32,7 @@ module _ (ram : List ℕ) (to from : ℕ) (memory : List ℕ) where
   copied zero h = record { same-length = refl; words = λ i l. absurd (omega arith); others = λ k o. refl }
   copied (suc n) h =
       let m = upto (wordRead ram to from) n memory in
-      let v = word ram (from + 4 * n) in
+      let v = loadWord ram (from + 4 * n) in
       let c : Copied ram to from n memory m = copied n (omega arith) in
       record {
         same-length = length-set m (to + n) v ∙ c .same-length;
@@ -51,47 +51,10 @@ module _ (ram : List ℕ) (to from : ℕ) (memory : List ℕ) where
   unfolding wordsRead
   read-pointwise h = copied 16 h
 
--- a word in RAM: what is stored is read back, and words with no byte in common are independent
-module _ (m : List ℕ) (a v : ℕ) where
-  length-storeWord : length (storeWord m a v) ≡ length m
-  unfolding storeWord
-  length-storeWord = length-storeHalf (storeHalf m a (v / 65536)) (a + 2) (v % 65536) ∙ length-storeHalf m a (v / 65536)
-
-  word-stored-same : a + 3 < length m → word (storeWord m a v) a ≡ v
-  unfolding word storeWord
-  word-stored-same h =
-      let n = storeHalf m a (v / 65536) in
-      let k : length n ≡ length m = length-storeHalf m a (v / 65536) in
-      ap₂ (λ (x y : ℕ). x * 65536 + y)
-      (half-stored-other n (a + 2) (v % 65536) a (inr (omega arith)) ∙ half-stored-same m a (v / 65536) (omega arith))
-      (half-stored-same n (a + 2) (v % 65536) (omega (arith, k)))
-      ∙ omega arith
-
-  word-stored-other : (b : ℕ) → (a + 3 < b) ⊎ (b + 3 < a) → word (storeWord m a v) b ≡ word m b
-  unfolding word storeWord
-  word-stored-other b o =
-      let n = storeHalf m a (v / 65536) in
-      ap₂ (λ (x y : ℕ). x * 65536 + y)
-      (half-stored-other n (a + 2) (v % 65536) b (near (a + 2) b (omega arith)) ∙ half-stored-other m a (v / 65536) b (near a b (omega arith)))
-      (half-stored-other n (a + 2) (v % 65536) (b + 2) (near (a + 2) (b + 2) (omega arith))
-      ∙ half-stored-other m a (v / 65536) (b + 2) (near a (b + 2) (omega arith)))
-    where
-      near : (x y : ℕ) → (a ≤ x) × (x ≤ a + 2) × (b ≤ y) × (y ≤ b + 2) → (x + 1 < y) ⊎ (y + 1 < x)
-      near x y h = ⊎-elim (λ (l : a + 3 < b). inl (omega arith)) (λ (l : b + 3 < a). inr (omega arith)) o
-
-  byte-stored-far : (b : ℕ) → (b < a) ⊎ (a + 4 ≤ b) → getD (storeWord m a v) b 0 ≡ getD m b 0
-  unfolding storeWord
-  byte-stored-far b (inl h) =
-      byte-stored-other (storeHalf m a (v / 65536)) (a + 2) (v % 65536) b (λ e. omega arith) (λ e. omega arith)
-      ∙ byte-stored-other m a (v / 65536) b (λ e. omega arith) (λ e. omega arith)
-  byte-stored-far b (inr h) =
-      byte-stored-other (storeHalf m a (v / 65536)) (a + 2) (v % 65536) b (λ e. omega arith) (λ e. omega arith)
-      ∙ byte-stored-other m a (v / 65536) b (λ e. omega arith) (λ e. omega arith)
-
 -- the first n words of a WRITE
 pub record Stored (memory : List ℕ) (from to n : ℕ) (ram after : List ℕ) : Type 0 where
   pub same-length : length after ≡ length ram
-  pub words : (i : ℕ) → i < n → word after (to + 4 * i) ≡ getD memory (from + i) 0
+  pub words : (i : ℕ) → i < n → loadWord after (to + 4 * i) ≡ getD memory (from + i) 0
   pub others : (b : ℕ) → (b < to) ⊎ (to + 4 * n ≤ b) → getD after b 0 ≡ getD ram b 0
 
 module _ (memory : List ℕ) (from to : ℕ) (ram : List ℕ) where

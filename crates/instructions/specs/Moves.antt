@@ -1,20 +1,13 @@
 -- 01, "Machine words": READ and WRITE, 16 words between the RAM and the data memory.
-use Prim.Native.Nat.{ℕ, _+_, _*_, _/_, _%_}
+use Prim.Native.Nat.{ℕ, _+_, _*_}
 use mathlib.Core.List.{List}
 use lib.ListN.{getD, set}
 use Rattle.rules.specs.Folds.{upto}
-use Rattle.rules.specs.Sizes.{loadHalf, storeHalf}
-
--- "words and half-words big-endian"
-unfoldable pub word : List ℕ → ℕ → ℕ
-word ram a = loadHalf ram a * 65536 + loadHalf ram (a + 2)
-
-unfoldable pub storeWord : List ℕ → ℕ → ℕ → List ℕ
-storeWord ram a v = storeHalf (storeHalf ram a (v / 65536)) (a + 2) (v % 65536)
+use Rattle.ram.specs.Ram.{loadWord, storeWord}
 
 -- "READ copies 16 words from the RAM byte address in r2 to the data address in r1"
 unfoldable pub wordRead : List ℕ → ℕ → ℕ → ℕ → List ℕ → List ℕ
-wordRead ram to from i memory = set memory (to + i) (word ram (from + 4 * i))
+wordRead ram to from i memory = set memory (to + i) (loadWord ram (from + 4 * i))
 
 unfoldable pub wordsRead : List ℕ → ℕ → ℕ → List ℕ → List ℕ
 wordsRead ram to from memory = upto (wordRead ram to from) 16 memory

@@ -6,7 +6,8 @@ use lib.ListN.{getD}
 use lib.Dec.{ltb, eqb}
 use Rattle.rules.specs.declared.Screen.{Screen}
 use Rattle.rules.specs.Folds.{upto, choose}
-use Rattle.rules.specs.Sizes.{width, height, colourAt, depthAt, loadHalf, storeHalf, putPixel}
+use Rattle.ram.specs.Ram.{loadHalf, storeHalf}
+use Rattle.rules.specs.Sizes.{width, height, colourAt, depthAt, putPixel}
 use Rattle.rules.specs.Triangles.{topHalf, positive, negative}
 use Rattle.instructions.specs.declared.Tree.{Tree}
 use Rattle.instructions.specs.Words.{keep32, signed}

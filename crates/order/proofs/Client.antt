@@ -11,7 +11,8 @@ use Rattle.rules.specs.declared.Screen.{Screen}
 use Rattle.rules.specs.declared.Triangle.{Triangle}
 use Rattle.rules.specs.declared.Drawn.{Drawn}
 use Rattle.rules.specs.Folds.{choose}
-use Rattle.rules.specs.Sizes.{width, height, colourAt, sound, loadHalf}
+use Rattle.ram.specs.Ram.{loadHalf}
+use Rattle.rules.specs.Sizes.{width, height, colourAt, sound}
 use Rattle.rules.specs.Triangles.{written, triangleColour, triangleDepth, drawn}
 use Rattle.rules.specs.Numbers.{tooLong, screenNumber, triangleNumber}
 use Rattle.rules.specs.Calls.{Clears, Draws, accepted, cleared}

@@ -14,11 +14,12 @@ use Rattle.rules.specs.declared.Screen.{Screen}
 use Rattle.rules.specs.declared.Triangle.{Triangle}
 use Rattle.rules.specs.declared.Drawn.{Drawn}
 use Rattle.rules.specs.Folds.{choose}
-use Rattle.rules.specs.Sizes.{sound, loadHalf}
+use Rattle.ram.specs.Ram.{loadHalf}
+use Rattle.rules.specs.Sizes.{sound}
 use Rattle.rules.specs.Triangles.{covered, triangleColour, triangleDepth, drawn}
 use Rattle.rules.specs.Numbers.{tooLong, triangleNumber}
 use Rattle.rules.specs.Calls.{accepted, Draws}
-use Rattle.rules.proofs.Halves.{joined, joined-split, split-inj}
+use Rattle.ram.proofs.Halves.{joined, joined-split, split-inj}
 use Rattle.rules.proofs.Pixels.{On, Outside, Sound, sound-facts, Cell, cell, painted}
 use Rattle.rules.proofs.Memory.{same-memory, on-rows}
 use Rattle.rules.proofs.Drawing.{covered-on, merged, length-drawn, touched-drawn}

@@ -9,10 +9,11 @@ use lib.ListN.{length, getD}
 use Rattle.rules.specs.declared.Screen.{Screen}
 use Rattle.rules.specs.declared.Triangle.{Triangle}
 use Rattle.rules.specs.Folds.{choose}
-use Rattle.rules.specs.Sizes.{width, height, sound, colourAt, depthAt, loadHalf}
+use Rattle.ram.specs.Ram.{loadHalf}
+use Rattle.rules.specs.Sizes.{width, height, sound, colourAt, depthAt}
 use Rattle.rules.specs.Triangles.{written, triangleColour, triangleDepth, drawn}
 use Rattle.rules.specs.Calls.{cleared}
-use Rattle.rules.proofs.Halves.{joined, joined-split}
+use Rattle.ram.proofs.Halves.{joined, joined-split}
 use Rattle.rules.proofs.Pixels.{On, ByteOf, Outside, sound-facts, Cell, cell, painted}
 use Rattle.rules.proofs.Memory.{same-memory, on-rows}
 use Rattle.rules.proofs.Drawing.{merged-cell, touched-drawn, touched-cleared}

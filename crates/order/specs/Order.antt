@@ -7,7 +7,8 @@ use mathlib.Core.Bool.{true}
 use mathlib.Core.List.{List}
 use Rattle.rules.specs.declared.Screen.{Screen}
 use Rattle.rules.specs.declared.Triangle.{Triangle}
-use Rattle.rules.specs.Sizes.{depthAt, loadHalf}
+use Rattle.ram.specs.Ram.{loadHalf}
+use Rattle.rules.specs.Sizes.{depthAt}
 use Rattle.rules.specs.Triangles.{Edge, edge1, edge2, edge3, covered, triangleColour, triangleDepth, drawn}
 
 abbrev pub SameInBothOrders : Triangle → Triangle → Screen → List ℕ → Type 0

@@ -14,11 +14,12 @@ use Rattle.ints.proofs.Modulo.{mod32-lt}
 use Rattle.rules.specs.declared.Screen.{Screen}
 use Rattle.rules.specs.declared.Triangle.{Triangle}
 use Rattle.rules.specs.Folds.{upto, choose}
-use Rattle.rules.specs.Sizes.{width, height, loadHalf, putPixel}
+use Rattle.ram.specs.Ram.{loadHalf}
+use Rattle.rules.specs.Sizes.{width, height, putPixel}
 use Rattle.rules.specs.Triangles.{planeAt, topHalf, packed, covered, written, triangleColour, triangleDepth, pixelDrawn, rowDrawn, drawn}
 use Rattle.rules.specs.Calls.{cleared}
 use Rattle.rules.proofs.Folds.{upto-keeps}
-use Rattle.rules.proofs.Halves.{joined}
+use Rattle.ram.proofs.Halves.{joined}
 use Rattle.rules.proofs.Pixels.{On, Other, Sound, and-l, and-r, Cell, cell, painted, length-putPixel}
 use Rattle.rules.proofs.Memory.{Touched, Only, Row, Rows, touched-same, touched-put, row-of-steps, rows-of-steps}
 

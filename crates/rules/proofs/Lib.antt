@@ -1,6 +1,5 @@
 pub mod Choices
 pub mod Folds
-pub mod Halves
 pub mod Strips
 pub mod Rows
 pub mod Pixels

@@ -11,7 +11,7 @@ use lib.Seq.{ext-getD}
 use Rattle.rules.specs.declared.Screen.{Screen}
 use Rattle.rules.specs.Folds.{upto}
 use Rattle.rules.specs.Sizes.{width, height, putPixel}
-use Rattle.rules.proofs.Halves.{bytes}
+use Rattle.ram.proofs.Halves.{bytes}
 use Rattle.rules.proofs.Pixels.{On, Other, ByteOf, Outside, Stands, in-colour, in-depth, outside, stands, other?, Sound, Cell, cell, painted, length-putPixel, cell-put-same, cell-put-other, byte-put-outside}
 
 module _ (s : Screen) (l m : List ℕ) where

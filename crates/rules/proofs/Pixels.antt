@@ -10,8 +10,9 @@ use native.Mathlib.Decide.{ℕ-discrete}
 use lib.Arith.{digits-lt, digits-div, digits-mod}
 use lib.ListN.{length, getD}
 use Rattle.rules.specs.declared.Screen.{Screen}
-use Rattle.rules.specs.Sizes.{width, height, colourAt, depthAt, loadHalf, storeHalf, putPixel}
-use Rattle.rules.proofs.Halves.{Apart, apart-sym, apart-ne, length-storeHalf, byte-stored-other, bytes-stored-same, bytes-stored-other, storeHalf-comm, Bytes, split, joined, joined-split, bytes}
+use Rattle.ram.specs.Ram.{loadHalf, storeHalf}
+use Rattle.rules.specs.Sizes.{width, height, colourAt, depthAt, putPixel}
+use Rattle.ram.proofs.Halves.{Apart, apart-sym, apart-ne, length-storeHalf, byte-stored-other, bytes-stored-same, bytes-stored-other, storeHalf-comm, Bytes, split, joined, joined-split, bytes}
 pub use Rattle.rules.proofs.Strips.{On, Other, Sound, and-l, and-r, sound-facts, width-le, height-le, colour-fits, depth-fits, colour-apart, depth-apart, colour-depth-apart, colour-leaf, depth-leaf}
 
 -- b is a byte of the half-word at a

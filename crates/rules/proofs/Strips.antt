@@ -13,7 +13,7 @@ use lib.Dec.{leb}
 use borrow.Author.Tests.{leb-true, eqb-true}
 use Rattle.rules.specs.declared.Screen.{Screen}
 use Rattle.rules.specs.Sizes.{groups, width, height, area, soundAreas, sound, colourAt, depthAt}
-use Rattle.rules.proofs.Halves.{Apart}
+use Rattle.ram.proofs.Halves.{Apart}
 
 -- (x, y) is a pixel of the screen
 pub record On (s : Screen) (x y : ℕ) : Type 0 where

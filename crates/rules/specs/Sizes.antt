@@ -2,7 +2,7 @@
 use Prim.Native.Nat.{ℕ, _+_, _*_, _/_, _%_}
 use mathlib.Core.Bool.{Bool, _&&_, _||_}
 use mathlib.Core.List.{List}
-use lib.ListN.{getD, set}
+use Rattle.ram.specs.Ram.{storeHalf}
 use lib.Dec.{leb, eqb}
 use Rattle.rules.specs.declared.Screen.{Screen}
 
@@ -47,13 +47,6 @@ colourAt s x y = s .colour + (y * width (s .size) + x) * 2
 
 unfoldable pub depthAt : Screen → ℕ → ℕ → ℕ
 depthAt s x y = s .depth + (y * width (s .size) + x) * 2
-
--- "half-words big-endian"
-unfoldable pub loadHalf : List ℕ → ℕ → ℕ
-loadHalf m a = getD m a 0 * 256 + getD m (a + 1) 0
-
-unfoldable pub storeHalf : List ℕ → ℕ → ℕ → List ℕ
-storeHalf m a v = set (set m a (v / 256)) (a + 1) (v % 256)
 
 -- a pixel's colour and depth, written
 unfoldable pub putPixel : Screen → ℕ → ℕ → ℕ → ℕ → List ℕ → List ℕ

@@ -9,7 +9,8 @@ use Rattle.rules.specs.declared.Screen.{Screen}
 use Rattle.rules.specs.declared.Plane.{Plane}
 use Rattle.rules.specs.declared.Triangle.{Triangle}
 use Rattle.rules.specs.Folds.{upto, pixels, choose}
-use Rattle.rules.specs.Sizes.{width, height, depthAt, loadHalf, putPixel}
+use Rattle.ram.specs.Ram.{loadHalf}
+use Rattle.rules.specs.Sizes.{width, height, depthAt, putPixel}
 
 -- "At pixel (x, y) a plane has c + a·x + b·y, taken modulo 2^32."
 unfoldable pub planeAt : Plane → ℕ → ℕ → ℕ

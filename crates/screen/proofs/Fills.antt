@@ -10,11 +10,12 @@ use lib.ListN.{length}
 use borrow.Author.Tests.{eq-eqb, ne-eqb}
 use Rattle.rules.specs.declared.Screen.{Screen}
 use Rattle.rules.specs.Folds.{upto}
-use Rattle.rules.specs.Sizes.{width, height, area, storeHalf, putPixel}
+use Rattle.ram.specs.Ram.{storeHalf}
+use Rattle.rules.specs.Sizes.{width, height, area, putPixel}
 use Rattle.rules.specs.Numbers.{screenNumber}
 use Rattle.rules.specs.Calls.{cleared, Clears}
 use Rattle.rules.proofs.Folds.{upto-more, upto-keeps}
-use Rattle.rules.proofs.Halves.{Apart, length-storeHalf, storeHalf-comm}
+use Rattle.ram.proofs.Halves.{Apart, length-storeHalf, storeHalf-comm}
 use Rattle.rules.proofs.Strips.{Sound, colour-in-area, depth-in-area}
 use Rattle.screen.specs.Fills.{filled}
 use Rattle.screen.proofs.Pairs.{upto-pairs, upto-rows}

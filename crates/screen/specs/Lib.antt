@@ -1,5 +1,4 @@
 -- What the functions of this crate promise, in parts with names.
 pub mod Fills
-pub mod Halves
 pub mod Areas
 pub mod Rows

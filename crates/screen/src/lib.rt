@@ -1,5 +1,4 @@
-// The screen in lent memory: half-words, sizes and soundness, the clear, and the row reader.
+// The screen in lent memory: sizes and soundness, the clear, and the row reader.
 pub mod clear;
-pub mod halves;
 pub mod rows;
 pub mod sizes;

@@ -5,7 +5,8 @@ use mathlib.Core.Bool.{Bool, true, false}
 use mathlib.Core.List.{List}
 use Rattle.rules.specs.declared.Screen.{Screen}
 use Rattle.rules.specs.Folds.{choose}
-use Rattle.rules.specs.Sizes.{sound, loadHalf, storeHalf}
+use Rattle.ram.specs.Ram.{loadHalf, storeHalf}
+use Rattle.rules.specs.Sizes.{sound}
 use Rattle.instructions.specs.declared.Tree.{Tree}
 use Rattle.instructions.specs.Tree.{leaves, refusesPlace}
 

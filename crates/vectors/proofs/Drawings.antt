@@ -3,7 +3,8 @@ use mathlib.Core.Path.{_≡_, refl}
 use mathlib.Core.List.{map}
 use Rattle.ints.specs.Modulo.{mod32}
 use Rattle.rules.specs.Folds.{upto, howMany, pixels}
-use Rattle.rules.specs.Sizes.{sound, soundAreas, colourAt, depthAt, loadHalf, storeHalf, putPixel}
+use Rattle.ram.specs.Ram.{loadHalf, storeHalf}
+use Rattle.rules.specs.Sizes.{sound, soundAreas, colourAt, depthAt, putPixel}
 use Rattle.rules.specs.Triangles.{planeAt, topHalf, packed, triangleDepth, triangleColour, sample, edgeValue, keepsZero, inside, insideAll, covered, written, pixelDrawn, rowDrawn, drawn}
 use Rattle.rules.specs.Numbers.{verticesInRange, edgeTooLarge, triangleTooLarge, screenNumber, rowNumber, triangleNumber}
 use Rattle.rules.specs.Calls.{cleared, rowStart, rowLength, rowBytes}

@@ -2,13 +2,15 @@
 use mathlib.Core.Path.{_≡_, refl}
 use Rattle.ints.specs.Modulo.{mod32}
 use Rattle.rules.specs.Folds.{upto}
-use Rattle.rules.specs.Sizes.{sound, soundAreas, colourAt, depthAt, loadHalf, storeHalf, putPixel}
+use Rattle.ram.specs.Ram.{loadHalf, storeHalf}
+use Rattle.rules.specs.Sizes.{sound, soundAreas, colourAt, depthAt, putPixel}
 use Rattle.rules.specs.Triangles.{topHalf}
 use Rattle.rules.specs.Calls.{cleared}
 use Rattle.instructions.specs.Words.{withRegister, signExtended, address}
 use Rattle.instructions.specs.Arithmetic.{roundedProduct, reciprocal, immediate, shiftAmount, shiftedLeft, shiftedRight, shiftedSigned, dot, value, result}
 use Rattle.instructions.specs.Jumps.{goes, nextPlace}
-use Rattle.instructions.specs.Moves.{word, storeWord, wordRead, wordsRead, wordWritten, wordsWritten}
+use Rattle.ram.specs.Ram.{loadWord, storeWord}
+use Rattle.instructions.specs.Moves.{wordRead, wordsRead, wordWritten, wordsWritten}
 use Rattle.instructions.specs.Tree.{each, refusesPlace, maskBit, treeSet, leafValue, marked, treeIn, deepened, treeDepth, replaced, treeColour, treeVal, leafPut, treePut}
 use Rattle.instructions.specs.Halts.{outsideData, moveOutsideData, moveOutsideRam, noScreen, noTree, wordHalt, haltNumber}
 use Rattle.instructions.specs.Step.{withRegisters, withPlace, withFlags, withHalt, withScreen, withTree, afterResult, afterST, afterCALL, afterREAD, afterWRITE, afterSCRSET, afterCLS, afterTREESET, grown, afterTREEIN, afterTREEVAL, afterTREEPUT, effect, performed, step}

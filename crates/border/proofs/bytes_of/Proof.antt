@@ -5,7 +5,7 @@ use mathlib.Core.Bool.{false}
 use native.Mathlib.Omega.{arith}
 use lib.ListN.{getD}
 use borrow.Author.Needs.{needs}
-use Rattle.tree.proofs.Filled.{Filled, filled-none, filled-more, filled-all}
+use Rattle.instructions.proofs.Filled.{Filled, filled-none, filled-more, filled-all}
 use Rattle.border.specs.Lent.{numberOf}
 use Rattle.border.proofs.bytes_of.Statement.{statement}
 use Rattle.border.proofs.bytes_of.Tie as tie

@@ -4,7 +4,7 @@ use mathlib.Core.Path.{refl}
 use native.Mathlib.Omega.{arith}
 use lib.ListN.{getD}
 use borrow.Author.Needs.{needs}
-use Rattle.tree.proofs.Filled.{Filled, filled-none, filled-more, filled-all}
+use Rattle.instructions.proofs.Filled.{Filled, filled-none, filled-more, filled-all}
 use Rattle.border.specs.Lent.{isYes}
 use Rattle.border.proofs.marks_of.Statement.{statement}
 use Rattle.border.proofs.marks_of.Tie as tie

@@ -6,7 +6,8 @@ use native.Mathlib.Omega.{arith}
 use lib.ListN.{length, getD}
 use Rattle.rules.specs.Folds.{upto}
 use Rattle.rules.proofs.Folds.{upto-none, upto-more}
-use Rattle.instructions.specs.Moves.{storeWord, wordWritten, wordsWritten}
+use Rattle.ram.specs.Ram.{storeWord}
+use Rattle.instructions.specs.Moves.{wordWritten, wordsWritten}
 use Rattle.moves.proofs.write_words.Statement.{statement}
 use Rattle.moves.proofs.write_words.Tie as tie
 

@@ -3,8 +3,8 @@ use Prim.Native.Nat.{_+_, _*_, _-_, _≤_}
 use mathlib.Core.Path.{refl}
 use native.Mathlib.Omega.{arith}
 use borrow.Author.Needs.{needs}
-use Rattle.rules.specs.Sizes.{loadHalf}
-use Rattle.tree.proofs.Filled.{Filled, filled-none, filled-more, filled-all}
+use Rattle.ram.specs.Ram.{loadHalf}
+use Rattle.instructions.proofs.Filled.{Filled, filled-none, filled-more, filled-all}
 use Rattle.tree.proofs.load_halves.Statement.{statement}
 use Rattle.tree.proofs.load_halves.Tie as tie
 

@@ -6,7 +6,7 @@ use native.Mathlib.Omega.{arith}
 use lib.ListN.{replicate}
 use borrow.Author.Needs.{needs}
 use Rattle.instructions.specs.Tree.{each, maskBit, treeSet}
-use Rattle.tree.proofs.Filled.{Filled, filled-none, filled-more, filled-all}
+use Rattle.instructions.proofs.Filled.{Filled, filled-none, filled-more, filled-all}
 use Rattle.tree.proofs.planted.Statement.{statement}
 use Rattle.tree.proofs.planted.Tie as tie
 

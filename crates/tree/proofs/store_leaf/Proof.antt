@@ -1,7 +1,7 @@
 -- `store_leaf` leaves `stored`: the test on the way picks the definition's choice, and the stores are its stores. Assumes nothing.
 use mathlib.Core.Path.{_≡_, _∙_, ap}
 use mathlib.Core.Bool.{true, false}
-use Rattle.rules.specs.Sizes.{storeHalf}
+use Rattle.ram.specs.Ram.{storeHalf}
 use Rattle.tree.specs.Leaves.{stored}
 use borrow.Author.Needs.{needs}
 use Rattle.tree.proofs.store_leaf.Statement.{statement}

@@ -5,7 +5,7 @@ use mathlib.Core.Path.{_≡_, _∙_, ap₂}
 use native.Mathlib.Omega.{arith}
 use borrow.Author.Needs.{needs}
 use Rattle.instructions.specs.Tree.{leafColour, leafValue, replaced, treeColour}
-use Rattle.tree.proofs.Filled.{Filled, filled-none, filled-kept, filled-more, filled-all}
+use Rattle.instructions.proofs.Filled.{Filled, filled-none, filled-kept, filled-more, filled-all}
 use Rattle.tree.proofs.Values.{value-first, value-next}
 use Rattle.tree.proofs.tree_colour.Statement.{statement}
 use Rattle.tree.proofs.tree_colour.Tie as tie

@@ -8,11 +8,11 @@ use native.Mathlib.Omega.{arith}
 use lib.Dec.{ltb}
 use lib.ListN.{getD}
 use borrow.Author.Needs.{needs}
-use Rattle.rules.specs.Sizes.{loadHalf}
+use Rattle.ram.specs.Ram.{loadHalf}
 use Rattle.rules.specs.Triangles.{topHalf}
 use Rattle.instructions.specs.Tree.{markI, markO, leafValue, marked, deepened, tooDeep, treeDepth}
 use Rattle.instructions.proofs.Leaves.{leaf-at, leaves-same}
-use Rattle.tree.proofs.Filled.{Filled, filled-none, filled-kept, filled-more, filled-all}
+use Rattle.instructions.proofs.Filled.{Filled, filled-none, filled-kept, filled-more, filled-all}
 use Rattle.tree.proofs.Values.{value-first, value-next, value-small}
 use Rattle.tree.proofs.Standing.{depth-leaf-fits, depth-from}
 use Rattle.tree.proofs.tree_depth.Statement.{statement}

@@ -8,7 +8,7 @@ use borrow.Author.Needs.{needs}
 use Rattle.rules.specs.Triangles.{positive, negative}
 use Rattle.instructions.specs.Words.{signed}
 use Rattle.instructions.specs.Tree.{markI, markO, leafValue, marked, treeIn}
-use Rattle.tree.proofs.Filled.{Filled, filled-none, filled-kept, filled-more, filled-all}
+use Rattle.instructions.proofs.Filled.{Filled, filled-none, filled-kept, filled-more, filled-all}
 use Rattle.tree.proofs.Values.{value-first, value-next}
 use Rattle.tree.proofs.tree_in.Statement.{statement}
 use Rattle.tree.proofs.tree_in.Tie as tie

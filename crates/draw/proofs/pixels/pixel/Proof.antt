@@ -4,7 +4,7 @@ use mathlib.Core.Path.{sym, _∙_, ap, subst}
 use mathlib.Core.List.{List}
 use native.Mathlib.Nat.{add-zero}
 use borrow.Author.Tests.{le-leb, lt-leb}
-use Rattle.rules.specs.Sizes.{storeHalf}
+use Rattle.ram.specs.Ram.{storeHalf}
 use Rattle.rules.specs.Triangles.{topHalf}
 use borrow.Author.Needs.{needs}
 use Rattle.draw.proofs.pixels.pixel.Statement.{statement}

@@ -5,7 +5,7 @@ use mathlib.Core.Path.{_≡_, _∙_, ap}
 use native.Mathlib.Omega.{arith}
 use lib.ListN.{length, length-set}
 use borrow.Author.Needs.{needs}
-use Rattle.rules.specs.Sizes.{storeHalf}
+use Rattle.ram.specs.Ram.{storeHalf}
 use Rattle.screen.specs.Fills.{filled}
 use Rattle.screen.proofs.Fills.{filledTo, filled-none, filled-more, length-filled}
 use Rattle.screen.proofs.clear.fill.Statement.{statement}

@@ -1,12 +1,12 @@
--- `halves::load_half` gives the half-word at `a`: both bytes are below 256, so nothing wraps and the value is below 65,536.
+-- `load_half` gives the half-word at `a`: both bytes are below 256, so nothing wraps and the value is below 65,536.
 -- Assumes nothing.
 use Prim.Native.Nat.{_+_}
 use mathlib.Core.Path.{refl}
 use native.Mathlib.Omega.{arith}
 use borrow.Author.Needs.{needs}
-use Rattle.rules.specs.Sizes.{loadHalf}
-use Rattle.screen.proofs.halves.load_half.Statement.{statement}
-use Rattle.screen.proofs.halves.load_half.Tie as tie
+use Rattle.ram.specs.Ram.{loadHalf}
+use Rattle.ram.proofs.load_half.Statement.{statement}
+use Rattle.ram.proofs.load_half.Tie as tie
 
 shared-slice-read-result : tie.Need-shared-slice-read-result
 shared-slice-read-result c = search needs

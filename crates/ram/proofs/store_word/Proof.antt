@@ -2,10 +2,10 @@
 use Prim.Native.Nat.{_+_, _%_}
 use mathlib.Core.Path.{_∙_, ap}
 use borrow.Author.Needs.{needs}
-use Rattle.rules.specs.Sizes.{storeHalf}
-use Rattle.instructions.specs.Moves.{storeWord}
-use Rattle.moves.proofs.store_word.Statement.{statement}
-use Rattle.moves.proofs.store_word.Tie as tie
+use Rattle.ram.specs.Ram.{storeHalf}
+use Rattle.ram.specs.Ram.{storeWord}
+use Rattle.ram.proofs.store_word.Statement.{statement}
+use Rattle.ram.proofs.store_word.Tie as tie
 
 store-half-requires : tie.Need-store-half-requires
 store-half-requires c κs = search needs

@@ -1,9 +1,9 @@
--- `halves::store_half` leaves `storeHalf`: its two stores are that definition's two. Assumes nothing.
+-- `store_half` leaves `storeHalf`: its two stores are that definition's two. Assumes nothing.
 use mathlib.Core.Path.{refl}
 use borrow.Author.Needs.{needs}
-use Rattle.rules.specs.Sizes.{storeHalf}
-use Rattle.screen.proofs.halves.store_half.Statement.{statement}
-use Rattle.screen.proofs.halves.store_half.Tie as tie
+use Rattle.ram.specs.Ram.{storeHalf}
+use Rattle.ram.proofs.store_half.Statement.{statement}
+use Rattle.ram.proofs.store_half.Tie as tie
 
 cast-ram : tie.Need-cast-ram
 cast-ram c = search needs

@@ -3,9 +3,9 @@
 use Prim.Native.Nat.{ℕ, _+_, _*_}
 use mathlib.Core.Path.{ap₂}
 use borrow.Author.Needs.{needs}
-use Rattle.instructions.specs.Moves.{word}
-use Rattle.moves.proofs.load_word.Statement.{statement}
-use Rattle.moves.proofs.load_word.Tie as tie
+use Rattle.ram.specs.Ram.{loadWord}
+use Rattle.ram.proofs.load_word.Statement.{statement}
+use Rattle.ram.proofs.load_word.Tie as tie
 
 load-half-requires : tie.Need-load-half-requires
 load-half-requires c κs = search needs
@@ -23,7 +23,7 @@ add-result : tie.Need-add-result
 add-result c = search needs
 
 returns : tie.Need-returns
-unfolding word
+unfolding loadWord
 returns c = ap₂ (λ (h l : ℕ). h * 65536 + l) (c .before .load-half .ensures .value) (c .load-half2 .ensures .value)
 
 pub load-word-spec : {M : Type 1} → statement M

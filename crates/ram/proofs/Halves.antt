@@ -1,4 +1,4 @@
--- Laws of half and storeHalf: what is stored is read back, and half-words with no byte in common are independent. A half-word is two
+-- Laws of loadHalf and storeHalf: what is stored is read back, and half-words with no byte in common are independent. A half-word is two
 -- bytes, so each law is the law of one store, twice.
 use Prim.Native.Nat.{ℕ, _+_, _*_, _/_, _%_, _<_}
 use mathlib.Core.Path.{_≡_, refl, sym, _∙_, ap}
@@ -9,7 +9,7 @@ use native.Mathlib.Nat.{div-add-mod'}
 use native.Mathlib.Decide.{decLt}
 use lib.ListN.{length, getD, set, length-set}
 use lib.Seq.{getD-set-same, getD-set-other, set-set, set-comm}
-use Rattle.rules.specs.Sizes.{loadHalf, storeHalf}
+use Rattle.ram.specs.Ram.{loadHalf, storeHalf}
 
 -- the half-words at a and at b have no byte in common
 abbrev pub Apart : ℕ → ℕ → Type 0

@@ -2,7 +2,7 @@
 use Prim.Native.Nat.{ℕ, _<_}
 use mathlib.Core.Path.{_≡_}
 use mathlib.Core.List.{List}
-use Rattle.rules.specs.Sizes.{loadHalf}
+use Rattle.ram.specs.Ram.{loadHalf}
 
 pub record LoadsHalf (m : List ℕ) (a : ℕ) (r : ℕ) : Type 0 where
   pub value : r ≡ loadHalf m a
