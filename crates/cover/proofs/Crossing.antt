@@ -12,7 +12,7 @@ use lib.Signed.{nonNeg}
 use Rattle.ints.proofs.Poly.{var, con, neg, _⊕_, _⊖_, _⊗_, solve}
 use Rattle.ints.proofs.Order.{nonNeg-true, nonNeg-false, le-nonNeg, lt-nonNeg, le-of, le-to, lt-of, lt-to}
 use Rattle.ints.proofs.Bounds.{Within, within-pos, within-lit, within-sub, within-mul, within-le}
-use Rattle.rules.specs.declared.Triangle.{Triangle}
+use Rattle.rules.specs.declared.Vertices.{Vertices}
 use Rattle.rules.specs.Folds.{choose}
 use Rattle.rules.specs.Triangles.{Edge, dx, dy, edge1, edge2, edge3, sample, inside, positive, isZero}
 use Rattle.rules.specs.Numbers.{verticesInRange}
@@ -22,7 +22,8 @@ use Rattle.cover.specs.declared.Sides.{Sides}
 use Rattle.cover.specs.declared.Crossings.{Crossings}
 use Rattle.cover.specs.Units.{unit, raise, lift, Rounded}
 use Rattle.cover.specs.Side.{sided, rising, acrossOf, times, scaleOf, downOf, SideOf, SidesOf, CrossingOf, CrossingsOf, Addable, CanGoBelow}
-use Rattle.cover.proofs.Along.{inside-sided, slope, sided-right, sided-down, EdgeWithin, edge-within, edges-in-range, sided-within, level-within}
+use Rattle.edges.proofs.Within.{EdgeWithin, edge-within, edges-in-range}
+use Rattle.cover.proofs.Along.{inside-sided, slope, sided-right, sided-down, sided-within, level-within}
 use Rattle.cover.proofs.Quotients.{rounded-crosses, rounded-sum, rounded-low, rounded-high}
 
 -- signs
@@ -42,8 +43,8 @@ scaled z x h = go (nonNeg z) refl
         lt-nonNeg (pos 640 *ℤ z +ℤ pos (1 * x))
         (lt-of ρ (con (pos 640) ⊗ var 0 ⊕ var 1) (con (pos 0)) (omega (arith, lt-to ρ (var 0) (con (pos 0)) (nonNeg-false z e))))
 
-turned : (z : ℤ) → nonNeg (negsuc 0 -ℤ z) ≡ not (nonNeg z)
-turned z = go (nonNeg z) refl
+opposed : (z : ℤ) → nonNeg (negsuc 0 -ℤ z) ≡ not (nonNeg z)
+opposed z = go (nonNeg z) refl
   where
     ρ : List ℤ
     ρ = z ∷ []
@@ -144,7 +145,7 @@ module _ (e : Edge) (w : EdgeWithin e) (y : ℕ) (l : y ≤ 480) (m : ℕ) (h : 
       go true j =
           let r : nonNeg (negsuc 0 -ℤ sided e x y) ≡ leb raise (unit * x + m) =
           subst (λ (b : Bool). nonNeg (choose b (negsuc 0 -ℤ sided e x y) (sided e x y)) ≡ leb raise (unit * x + m)) j (rises-at x k) in
-          sym (Bool·not-not (nonNeg (sided e x y))) ∙ ap not (sym (turned (sided e x y)) ∙ r) ∙ not-leb raise (unit * x + m)
+          sym (Bool·not-not (nonNeg (sided e x y))) ∙ ap not (sym (opposed (sided e x y)) ∙ r) ∙ not-leb raise (unit * x + m)
       go false j = subst (λ (b : Bool). nonNeg (choose b (negsuc 0 -ℤ sided e x y) (sided e x y)) ≡ leb raise (unit * x + m)) j (rises-at x k)
 
 -- a row down
@@ -210,7 +211,7 @@ can-go-below e w y h d m o k =
       high = omega (arith, rounded-high k 8700000000000000000 v s, rounded-high (o .is-down) 5629499534213120 u s);
     }
 
-pub crossings-can-go-below : (t : Triangle) → verticesInRange t ≡ true → (y : ℕ) → y ≤ 512 → (d : Sides) (m : Crossings) → SidesOf t d → CrossingsOf t y m
+pub crossings-can-go-below : (t : Vertices) → verticesInRange t ≡ true → (y : ℕ) → y ≤ 512 → (d : Sides) (m : Crossings) → SidesOf t d → CrossingsOf t y m
     → CanGoBelow m d
 crossings-can-go-below t r y h d m o k =
     let e = edges-in-range t r in

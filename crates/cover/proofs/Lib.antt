@@ -5,8 +5,7 @@ pub mod Mask
 pub mod Along
 pub mod Crossing
 pub mod Meeting
-pub mod Codes
+pub mod Signs
 pub mod Outside
 pub mod Raised
-pub mod Large
 pub mod Unbroken

@@ -5,7 +5,7 @@ use mathlib.Core.Bool.{Bool, true, false, not, _&&_, _||_, and-comm}
 use native.Mathlib.Omega.{arith}
 use lib.Dec.{leb, ltb}
 use borrow.Author.Tests.{lt-ltb, le-ltb, ltb-true, ltb-false, leb-true, leb-false, le-leb, lt-leb}
-use Rattle.rules.specs.declared.Triangle.{Triangle}
+use Rattle.rules.specs.declared.Vertices.{Vertices}
 use Rattle.rules.specs.Folds.{choose}
 use Rattle.rules.specs.Triangles.{Edge, edge1, edge2, edge3, sample, inside, insideAll}
 use Rattle.rules.specs.Numbers.{verticesInRange}
@@ -15,7 +15,7 @@ use Rattle.cover.specs.declared.Crossings.{Crossings}
 use Rattle.cover.specs.Units.{unit, raise}
 use Rattle.cover.specs.Side.{SideOf, SidesOf, CrossingOf, CrossingsOf}
 use Rattle.cover.specs.Spans.{begun, ended, columnOf, RowSpan}
-use Rattle.cover.proofs.Along.{EdgeWithin, edge-within, edges-in-range}
+use Rattle.edges.proofs.Within.{EdgeWithin, edge-within, edges-in-range}
 use Rattle.cover.proofs.Crossing.{crossing-inside}
 use Rattle.cover.proofs.Columns.{span-beyond}
 
@@ -118,7 +118,7 @@ sorted true true true false true b₃ = refl
 sorted true true true true true true = refl
 sorted true true true true true false = refl
 
-module _ (t : Triangle) (y : ℕ) (v : verticesInRange t ≡ true) (i : y ≤ 480) (d : Sides) (m : Crossings) (o : SidesOf t d) (h : CrossingsOf t y m) (w : ℕ) (k : w ≤ 640) where
+module _ (t : Vertices) (y : ℕ) (v : verticesInRange t ≡ true) (i : y ≤ 480) (d : Sides) (m : Crossings) (o : SidesOf t d) (h : CrossingsOf t y m) (w : ℕ) (k : w ≤ 640) where
   all-inside : (x : ℕ) → x < w → insideAll t (sample x y) ≡ leb raise (unit * x + leastOf m d) && ltb (unit * x + mostOf m d w) raise
   unfolding insideAll
   all-inside x l =

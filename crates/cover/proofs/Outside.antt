@@ -10,9 +10,9 @@ use lib.Signed.{_≤ℤ_, _<ℤ_, leZ-yes, ltZ-yes, ≤ℤ-refl}
 use lib.Dec.{lt→ltb}
 use Rattle.ints.proofs.Poly.{Exp, var, con, _⊕_, _⊖_, _⊗_, solve}
 use Rattle.ints.proofs.Order.{pos-le, le-to, lt-to, eq-of, lt-of, zero-weights}
-use Rattle.rules.specs.declared.Triangle.{Triangle}
+use Rattle.rules.specs.declared.Vertices.{Vertices}
 use Rattle.rules.specs.Triangles.{Edge, Point, dx, dy, edge1, edge2, edge3, edgeValue, inside, insideAll, keepsZero, positive, isZero, negative}
-use Rattle.cover.proofs.Along.{and-true}
+use Rattle.rules.proofs.Choices.{and-true}
 
 -- one edge
 
@@ -39,19 +39,19 @@ level-right a b h e = go b (subst (λ (k : ℤ). negative k || isZero k && posit
 module _ (e : Edge) (p : Point) (h : inside e p ≡ true) where
   value-le : pos 0 ≤ℤ edgeValue e p
   unfolding inside
-  value-le = inside-le (edgeValue e p) (keepsZero e) h
+  value-le = inside-le (edgeValue e p) (keepsZero (dx e) (dy e)) h
 
-  zero-kept : edgeValue e p ≡ pos 0 → keepsZero e ≡ true
+  zero-kept : edgeValue e p ≡ pos 0 → keepsZero (dx e) (dy e) ≡ true
   unfolding inside
-  zero-kept = inside-zero (edgeValue e p) (keepsZero e) h
+  zero-kept = inside-zero (edgeValue e p) (keepsZero (dx e) (dy e)) h
 
 -- three edges that close
 
-module _ (t : Triangle) where
+module _ (t : Vertices) where
   abbrev ρ : List ℤ
   ρ = t .x1 ∷ t .y1 ∷ t .x2 ∷ t .y2 ∷ t .x3 ∷ t .y3 ∷ []
 
-  closed : keepsZero (edge1 t) ≡ true → keepsZero (edge2 t) ≡ true → keepsZero (edge3 t) ≡ true → ⊥
+  closed : keepsZero (dx (edge1 t)) (dy (edge1 t)) ≡ true → keepsZero (dx (edge2 t)) (dy (edge2 t)) ≡ true → keepsZero (dx (edge3 t)) (dy (edge3 t)) ≡ true → ⊥
   unfolding keepsZero
   closed k1 k2 k3 =
       let l1 = le-to ρ (var 3 ⊖ var 1) (con (pos 0)) (falls-or-level (dy (edge1 t)) (dx (edge1 t)) k1) in
@@ -97,7 +97,7 @@ weighed d e f =
     ⊕ edgeE (var 4) (var 5) (var 0) (var 1) ⊗ e
     ⊕ edgeE (var 0) (var 1) (var 2) (var 3) ⊗ f
 
-module _ (t : Triangle) (p : Point) where
+module _ (t : Vertices) (p : Point) where
   abbrev ρ₈ : List ℤ
   ρ₈ = t .x1 ∷ t .y1 ∷ t .x2 ∷ t .y2 ∷ t .x3 ∷ t .y3 ∷ p .px ∷ p .py ∷ []
 

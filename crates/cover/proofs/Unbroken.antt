@@ -9,11 +9,13 @@ use lib.Signed.{nonNeg, _≤ℤ_}
 use borrow.Author.Tests.{lt-ltb, ltb-true}
 use Rattle.ints.proofs.Order.{nonNeg-true, le-nonNeg, ≤ℤ-trans}
 use Rattle.rules.specs.declared.Screen.{Screen}
+use Rattle.rules.specs.declared.Vertices.{Vertices}
 use Rattle.rules.specs.declared.Triangle.{Triangle}
 use Rattle.rules.specs.Sizes.{width}
 use Rattle.rules.specs.Triangles.{Edge, edge1, edge2, edge3, sample, inside, insideAll, covered, onScreen}
 use Rattle.cover.specs.Side.{sided}
-use Rattle.cover.proofs.Along.{and-true, inside-sided, slope, rises, falls}
+use Rattle.rules.proofs.Choices.{and-true}
+use Rattle.cover.proofs.Along.{inside-sided, slope, rises, falls}
 
 module _ (e : Edge) (a b c y : ℕ) (h : a ≤ b) (k : b ≤ c) where
   edge-between : inside e (sample a y) ≡ true → inside e (sample c y) ≡ true → inside e (sample b y) ≡ true
@@ -29,7 +31,7 @@ module _ (e : Edge) (a b c y : ℕ) (h : a ≤ b) (k : b ≤ c) where
           ≤ℤ-trans (nonNeg-true (sided e c y) (sym (inside-sided e c y) ∙ q))
           (subst (λ (n : ℕ). sided e n y ≤ℤ sided e b y) i (falls e b (c - b) y s))
 
-inside-between : (t : Triangle) (a b c y : ℕ) → a ≤ b → b ≤ c
+inside-between : (t : Vertices) (a b c y : ℕ) → a ≤ b → b ≤ c
     → insideAll t (sample a y) ≡ true
     → insideAll t (sample c y) ≡ true
     → insideAll t (sample b y) ≡ true
@@ -55,4 +57,4 @@ unbroken t s a b c y h k p q =
     let q3 = and-true {a = onScreen s c y} q in
     let o = and-true {a = ltb c (width (s .size))} (q3 .0) in
     let w : b < width (s .size) = omega (arith, ltb-true c (width (s .size)) (o .0)) in
-    rw (lt-ltb b (width (s .size)) w, o .1, inside-between t a b c y h k (p3 .1) (q3 .1))
+    rw (lt-ltb b (width (s .size)) w, o .1, inside-between (t .vertices) a b c y h k (p3 .1) (q3 .1))

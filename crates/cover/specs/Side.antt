@@ -5,28 +5,21 @@ use Prim.Native.Nat.{ℕ, _+_, _*_, _≤_, _<_}
 use mathlib.Core.Path.{_≡_}
 use mathlib.Core.Bool.{Bool, _||_, _&&_}
 use lib.IntN.{ℤ, pos, negsuc, natAbs, _-ℤ_, _*ℤ_}
-use Rattle.rules.specs.declared.Triangle.{Triangle}
+use Rattle.rules.specs.declared.Vertices.{Vertices}
 use Rattle.rules.specs.Folds.{choose}
-use Rattle.rules.specs.Triangles.{Edge, dx, dy, edge1, edge2, edge3, edgeValue, sample, keepsZero, positive, isZero, negative}
-use Rattle.rules.specs.Numbers.{vertexInRange}
+use Rattle.rules.specs.Triangles.{Edge, dx, dy, edge1, edge2, edge3, edgeValue, sample, keepsZero, positive, isZero}
 use Rattle.cover.specs.declared.Side.{Side}
 use Rattle.cover.specs.declared.Sides.{Sides}
 use Rattle.cover.specs.declared.Crossings.{Crossings}
 use Rattle.cover.specs.Units.{unit, raise, lift, Rounded}
 
-abbrev pub edgeFrom : ℤ → ℤ → ℤ → ℤ → Edge
-edgeFrom a b c d = record { x1 = a; y1 = b; x2 = c; y2 = d }
-
-abbrev pub edgeInRange : Edge → Bool
-edgeInRange e = vertexInRange (e .x1) && vertexInRange (e .y1) && vertexInRange (e .x2) && vertexInRange (e .y2)
-
 -- what an edge's value loses where its zeros are outside
-abbrev pub lossOf : ℤ → ℤ → ℤ
-lossOf dx dy = choose (negative dy || isZero dy && positive dx) (pos 0) (pos 1)
+abbrev pub loss : ℤ → ℤ → ℤ
+loss dx dy = choose (keepsZero dx dy) (pos 0) (pos 1)
 
 -- the edge value, lowered so that a pixel is inside where it is not negative
 unfoldable pub sided : Edge → ℕ → ℕ → ℤ
-sided e x y = edgeValue e (sample x y) -ℤ choose (keepsZero e) (pos 0) (pos 1)
+sided e x y = edgeValue e (sample x y) -ℤ loss (dx e) (dy e)
 
 -- where it falls to the right, the sign is turned: then it is not negative outside
 abbrev pub rising : Edge → ℕ → ℕ → ℤ
@@ -51,19 +44,19 @@ pub record SideOf (e : Edge) (d : Side) : Type 0 where
   pub is-down : Rounded (scaleOf (dy e) *ℤ downOf (dx e) (dy e)) (acrossOf (dy e)) lift 1 (d .down)
   pub is-ends : d .ends ≡ positive (dy e)
 
-pub record SidesOf (t : Triangle) (d : Sides) : Type 0 where
-  pub of1 : SideOf (edge1 t) (d .p)
-  pub of2 : SideOf (edge2 t) (d .q)
-  pub of3 : SideOf (edge3 t) (d .r)
+pub record SidesOf (v : Vertices) (d : Sides) : Type 0 where
+  pub of1 : SideOf (edge1 v) (d .p)
+  pub of2 : SideOf (edge2 v) (d .q)
+  pub of3 : SideOf (edge3 v) (d .r)
 
 -- how far before column 0 the edge turns in row y; a rounding for each row so far
 abbrev pub CrossingOf : Edge → ℕ → ℕ → Type 0
 CrossingOf e y m = Rounded (scaleOf (dy e) *ℤ rising e 0 y) (acrossOf (dy e)) raise (y + 1) m
 
-pub record CrossingsOf (t : Triangle) (y : ℕ) (m : Crossings) : Type 0 where
-  pub of1 : CrossingOf (edge1 t) y (m .p)
-  pub of2 : CrossingOf (edge2 t) y (m .q)
-  pub of3 : CrossingOf (edge3 t) y (m .r)
+pub record CrossingsOf (v : Vertices) (y : ℕ) (m : Crossings) : Type 0 where
+  pub of1 : CrossingOf (edge1 v) y (m .p)
+  pub of2 : CrossingOf (edge2 v) y (m .q)
+  pub of3 : CrossingOf (edge3 v) y (m .r)
 
 -- a crossing that can be taken a row down, within 64 bits and not negative
 pub record Addable (m down : ℕ) : Type 0 where

@@ -3,7 +3,7 @@ use Prim.Native.Nat.{ℕ, _+_, _-_, _/_, _≤_, _<_}
 use mathlib.Core.Path.{_≡_}
 use mathlib.Core.Bool.{Bool, _&&_}
 use lib.Dec.{ltb, leb}
-use Rattle.rules.specs.declared.Triangle.{Triangle}
+use Rattle.rules.specs.declared.Vertices.{Vertices}
 use Rattle.rules.specs.Folds.{choose}
 use Rattle.rules.specs.Triangles.{sample, insideAll}
 use Rattle.cover.specs.declared.Span.{Span}
@@ -26,7 +26,7 @@ abbrev pub columnOf : ℕ → ℕ
 columnOf crossing = (raise - crossing + (unit - 1)) / unit
 
 -- the pixels of row y inside all three edges, among the first w, are those of the columns r
-pub record RowSpan (t : Triangle) (y w : ℕ) (r : Span) : Type 0 where
+pub record RowSpan (t : Vertices) (y w : ℕ) (r : Span) : Type 0 where
   pub ordered : r .from ≤ r .to
   pub limited : r .to ≤ w
   pub run : (x : ℕ) → x < w → insideAll t (sample x y) ≡ inSpan (r .from) (r .to) x

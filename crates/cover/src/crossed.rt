@@ -5,13 +5,14 @@ use crate::setup::rising_value;
 use crate::ticks::in_ticks;
 use crate::units::LIFT;
 use crate::units::RAISE;
-use rules::Triangle;
+use rules::Vertices;
 ghost use mathlib.Core.Path.{_≡_};
 ghost use mathlib.Core.Bool.{true};
 ghost use Prim.Native.Nat.{ℕ, _+_, _≤_};
-ghost use Rattle.rules.specs.declared.Triangle.{Triangle};
+ghost use Rattle.rules.specs.declared.Vertices.{Vertices};
 ghost use Rattle.rules.specs.Numbers.{verticesInRange};
-ghost use Rattle.cover.specs.Side.{edgeFrom, edgeInRange, SidesOf, CrossingOf, CrossingsOf, CanGoBelow};
+ghost use Rattle.edges.specs.Edges.{edgeFrom, edgeInRange};
+ghost use Rattle.cover.specs.Side.{SidesOf, CrossingOf, CrossingsOf, CanGoBelow};
 
 // An edge's crossing in row y.
 fn crossing(x1: i32, y1: i32, x2: i32, y2: i32, y: u32) -> u64
@@ -23,21 +24,21 @@ fn crossing(x1: i32, y1: i32, x2: i32, y2: i32, y: u32) -> u64
 }
 
 // The crossings in row y.
-pub fn crossings_at(t: Triangle, y: u32) -> Crossings
-    requires { ⌜ (verticesInRange t ≡ true) × (y ≤ 512) ⌝ }
-    ensures { λ r. ⌜ CrossingsOf t y r ⌝ }
+pub fn crossings_at(v: Vertices, y: u32) -> Crossings
+    requires { ⌜ (verticesInRange v ≡ true) × (y ≤ 512) ⌝ }
+    ensures { λ r. ⌜ CrossingsOf v y r ⌝ }
 {
     Crossings {
-        p: crossing(t.x1, t.y1, t.x2, t.y2, y),
-        q: crossing(t.x2, t.y2, t.x3, t.y3, y),
-        r: crossing(t.x3, t.y3, t.x1, t.y1, y),
+        p: crossing(v.x1, v.y1, v.x2, v.y2, y),
+        q: crossing(v.x2, v.y2, v.x3, v.y3, y),
+        r: crossing(v.x3, v.y3, v.x1, v.y1, y),
     }
 }
 
 // The crossings in the row below.
 pub fn crossings_below(m: Crossings, d: Sides) -> Crossings
     requires { ⌜ CanGoBelow m d ⌝ }
-    ensures { λ r. ⌜ ((t : Triangle) (y : ℕ) → SidesOf t d → CrossingsOf t y m → CrossingsOf t (y + 1) r) ⌝ }
+    ensures { λ r. ⌜ ((v : Vertices) (y : ℕ) → SidesOf v d → CrossingsOf v y m → CrossingsOf v (y + 1) r) ⌝ }
 {
     Crossings {
         p: m.p + d.p.down - LIFT,

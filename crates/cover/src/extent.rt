@@ -1,5 +1,5 @@
 // Which rows a triangle can touch: those whose sample points lie between its vertices.
-use crate::setup::SAMPLE_OFFSET;
+use edges::values::SAMPLE_OFFSET;
 ghost use mathlib.Core.Path.{_≡_};
 ghost use mathlib.Core.Bool.{true};
 ghost use Prim.Native.Nat.{ℕ, _≤_, _<_};

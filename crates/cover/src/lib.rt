@@ -1,5 +1,4 @@
 // Which pixels of a row a triangle covers, and which leaves of a group.
-pub mod bounds;
 pub mod crossed;
 pub mod extent;
 pub mod masks;

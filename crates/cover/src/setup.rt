@@ -3,33 +3,19 @@ use crate::Side;
 use crate::Sides;
 use crate::ticks::in_ticks;
 use crate::units::LIFT;
-use rules::Triangle;
+use edges::values::edge_value;
+use rules::Vertices;
 ghost use mathlib.Core.Path.{_≡_};
 ghost use mathlib.Core.Bool.{true};
 ghost use Prim.Native.Nat.{_≤_};
 ghost use lib.IntN.{natAbs};
-ghost use Rattle.rules.specs.Triangles.{edgeValue, sample};
 ghost use Rattle.rules.specs.Numbers.{verticesInRange};
-ghost use Rattle.cover.specs.Side.{edgeFrom, edgeInRange, lossOf, rising, downOf, SideOf, SidesOf};
-
-// How far to the right and down in its pixel the sample point lies.
-pub const SAMPLE_OFFSET: i64 = 0;
-
-// The edge's value at pixel (x, y).
-pub fn edge_value(x1: i32, y1: i32, x2: i32, y2: i32, x: u32, y: u32) -> i64
-    requires { ⌜ (edgeInRange (edgeFrom x1 y1 x2 y2) ≡ true) × (x ≤ 640) × (y ≤ 512) ⌝ }
-    ensures { λ r. ⌜ r ≡ edgeValue (edgeFrom x1 y1 x2 y2) (sample x y) ⌝ }
-{
-    let dx = x2 as i64 - x1 as i64;
-    let dy = y2 as i64 - y1 as i64;
-    let px = 8 * (x as i64) + SAMPLE_OFFSET;
-    let py = 8 * (y as i64) + SAMPLE_OFFSET;
-    (py - y1 as i64) * dx - (px - x1 as i64) * dy
-}
+ghost use Rattle.edges.specs.Edges.{edgeFrom, edgeInRange};
+ghost use Rattle.cover.specs.Side.{loss, rising, downOf, SideOf, SidesOf};
 
 // What an edge's value loses where its zeros are outside.
 fn loss(dx: i64, dy: i64) -> i64
-    ensures { λ r. ⌜ r ≡ lossOf dx dy ⌝ }
+    ensures { λ r. ⌜ r ≡ loss dx dy ⌝ }
 {
     if 0 < dy {
         return 1;
@@ -81,13 +67,13 @@ fn side(x1: i32, y1: i32, x2: i32, y2: i32) -> Side
     }
 }
 
-// The sides of the triangle's three edges, in the vertices' order.
-pub fn sides(t: Triangle) -> Sides
-    requires { ⌜ verticesInRange t ≡ true ⌝ }
-    ensures { λ r. ⌜ SidesOf t r ⌝ }
+// The sides of the three edges, in the vertices' order.
+pub fn sides(v: Vertices) -> Sides
+    requires { ⌜ verticesInRange v ≡ true ⌝ }
+    ensures { λ r. ⌜ SidesOf v r ⌝ }
 {
-    let p = side(t.x1, t.y1, t.x2, t.y2);
-    let q = side(t.x2, t.y2, t.x3, t.y3);
-    let r = side(t.x3, t.y3, t.x1, t.y1);
+    let p = side(v.x1, v.y1, v.x2, v.y2);
+    let q = side(v.x2, v.y2, v.x3, v.y3);
+    let r = side(v.x3, v.y3, v.x1, v.y1);
     Sides { p, q, r }
 }

@@ -7,7 +7,7 @@ use crate::units::UNIT;
 ghost use mathlib.Core.Path.{_≡_};
 ghost use mathlib.Core.Bool.{true};
 ghost use Prim.Native.Nat.{ℕ, _+_, _*_, _≤_};
-ghost use Rattle.rules.specs.declared.Triangle.{Triangle};
+ghost use Rattle.rules.specs.declared.Vertices.{Vertices};
 ghost use Rattle.rules.specs.Numbers.{verticesInRange};
 ghost use Rattle.cover.specs.Units.{unit, raise};
 ghost use Rattle.cover.specs.Side.{SidesOf, CrossingsOf};
@@ -50,7 +50,7 @@ fn column(crossing: u64) -> u32
 // The run among the first w columns: the inside begins where the last edge begins it, and ends where the first one ends it.
 pub fn row_span(m: Crossings, d: Sides, w: u32) -> Span
     requires { ⌜ w ≤ 640 ⌝ }
-    ensures { λ r. ⌜ ((t : Triangle) (y : ℕ) → verticesInRange t ≡ true → y ≤ 480 → SidesOf t d → CrossingsOf t y m → RowSpan t y w r) ⌝ }
+    ensures { λ r. ⌜ ((v : Vertices) (y : ℕ) → verticesInRange v ≡ true → y ≤ 480 → SidesOf v d → CrossingsOf v y m → RowSpan v y w r) ⌝ }
 {
     let least = begin(
         m.p,

@@ -3,6 +3,7 @@ use libc::STDOUT_FILENO;
 use rules::Plane;
 use rules::Screen;
 use rules::Triangle;
+use rules::Vertices;
 ghost use Prim.Native.Nat.{_<_};
 ghost use mathlib.Core.Path.{_≡_};
 ghost use lib.ListN.{length};
@@ -18,13 +19,16 @@ fn flat(value: i32) -> Plane {
 
 // One of the pair: its right angle at (corner, corner), its other corners at (x2, y2) and (y2, x2), in one shade of blue.
 fn half_square(corner: i32, x2: i32, y2: i32, blue: i32) -> Triangle {
-    Triangle {
+    let vertices = Vertices {
         x1: corner,
         y1: corner,
         x2,
         y2,
         x3: y2,
         y3: x2,
+    };
+    Triangle {
+        vertices,
         depth: flat(0),
         red: flat(0),
         green: flat(0),

@@ -53,7 +53,7 @@ module _ (m₀ : List ℕ) (s : Screen) (t : Triangle) where
       }
 
   -- a row with nothing inside
-  still-row : (m : List ℕ) (y : ℕ) → y < height (s .size) → ((x : ℕ) → insideAll t (sample x y) ≡ false)
+  still-row : (m : List ℕ) (y : ℕ) → y < height (s .size) → ((x : ℕ) → insideAll (t .vertices) (sample x y) ≡ false)
       → RowDone m s t y (record { covered = 0; written = 0 }) m
   unfolding rowDrawn
   still-row m y h out =
@@ -66,7 +66,7 @@ module _ (m₀ : List ℕ) (s : Screen) (t : Triangle) where
       }
 
   pub down-skip : Sound (length m₀) s → (n : ℕ) (m : List ℕ) (y c w : ℕ) → Down m₀ s t m y c w → y + n ≤ height (s .size)
-      → ((x j : ℕ) → y ≤ j → j < y + n → insideAll t (sample x j) ≡ false)
+      → ((x j : ℕ) → y ≤ j → j < y + n → insideAll (t .vertices) (sample x j) ≡ false)
       → Down m₀ s t m (y + n) c w
   down-skip q zero m y c w u h out = rw (add-zero y) u
   down-skip q (suc n) m y c w u h out =

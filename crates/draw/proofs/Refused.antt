@@ -34,16 +34,16 @@ module _ (n : ℕ) (s : Screen) (t : Triangle) where
 
   pub then-triangle : screenNumber n s ≡ 0
       → triangleNumber n s t
-      ≡ choose (not (verticesInRange t)) 6 (choose (triangleTooLarge t (width (s .size)) (height (s .size))) 7 0)
+      ≡ choose (not (verticesInRange (t .vertices))) 6 (choose (triangleTooLarge (t .vertices) (width (s .size)) (height (s .size))) 7 0)
   unfolding screenNumber triangleNumber
   then-triangle h = neither (tooLong n) (not (sound n s)) _ h
 
   pub drawn-asks : triangleNumber n s t ≡ 0 → FrameAsked n s t
   unfolding triangleNumber
-  drawn-asks h = go (tooLong n) (sound n s) (verticesInRange t) refl refl h
+  drawn-asks h = go (tooLong n) (sound n s) (verticesInRange (t .vertices)) refl refl h
     where
-      go : (a b c : Bool) → sound n s ≡ b → verticesInRange t ≡ c
-          → _≡_ {A = ℕ} (choose a 3 (choose (not b) 5 (choose (not c) 6 (choose (triangleTooLarge t (width (s .size)) (height (s .size))) 7 0)))) 0
+      go : (a b c : Bool) → sound n s ≡ b → verticesInRange (t .vertices) ≡ c
+          → _≡_ {A = ℕ} (choose a 3 (choose (not b) 5 (choose (not c) 6 (choose (triangleTooLarge (t .vertices) (width (s .size)) (height (s .size))) 7 0)))) 0
           → FrameAsked n s t
       go true b c p q e = absurd (omega arith)
       go false false c p q e = absurd (omega arith)

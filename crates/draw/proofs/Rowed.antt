@@ -20,11 +20,11 @@ use Rattle.draw.specs.Rows.{RowAsked, RowDone}
 use Rattle.draw.proofs.Stretch.{not-written, pixel-still}
 
 -- on the screen, covered is inside
-pub covered-is : (t : Triangle) (s : Screen) {x y : ℕ} → On s x y → covered t s x y ≡ insideAll t (sample x y)
+pub covered-is : (t : Triangle) (s : Screen) {x y : ℕ} → On s x y → covered t s x y ≡ insideAll (t .vertices) (sample x y)
 unfolding covered
 covered-is t s p = rw (lt-ltb _ _ (p .across), lt-ltb _ _ (p .down))
 
-pub outside-uncovered : (t : Triangle) (s : Screen) {x y : ℕ} → On s x y → insideAll t (sample x y) ≡ false → covered t s x y ≡ false
+pub outside-uncovered : (t : Triangle) (s : Screen) {x y : ℕ} → On s x y → insideAll (t .vertices) (sample x y) ≡ false → covered t s x y ≡ false
 outside-uncovered t s p h = covered-is t s p ∙ h
 
 -- a row in three parts, of which the first and the last do nothing

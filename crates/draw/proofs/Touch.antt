@@ -9,14 +9,14 @@ use mir.Syntax.{w32}
 use mir.Val.{toZ, ofZ}
 use mir.ValLaws.{toZ-ofZ}
 use Rattle.ints.proofs.Bounds.{fits-32}
-use Rattle.rules.specs.declared.Triangle.{Triangle}
+use Rattle.rules.specs.declared.Vertices.{Vertices}
 use Rattle.rules.specs.Triangles.{sampleOffset, sample, insideAll}
 use Rattle.rules.specs.Numbers.{vertexInRange}
 use Rattle.cover.specs.Extent.{Before, Beyond}
-use Rattle.cover.proofs.Along.{vertex-within}
+use Rattle.edges.proofs.Within.{vertex-within}
 use Rattle.cover.proofs.Outside.{above, below}
 
-module _ (t : Triangle) (x y : ℕ) where
+module _ (t : Vertices) (x y : ℕ) where
   pub row-before : Before (t .y1) (t .y2) (t .y3) y → insideAll t (sample x y) ≡ false
   unfolding sample
   row-before b = above t (sample x y) (b .first) (b .second) (b .third)

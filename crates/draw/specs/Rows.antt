@@ -5,6 +5,7 @@ use mathlib.Core.Logic.{_⊎_}
 use mathlib.Core.Bool.{true, false}
 use mathlib.Core.List.{List}
 use Rattle.rules.specs.declared.Screen.{Screen}
+use Rattle.rules.specs.declared.Vertices.{Vertices}
 use Rattle.rules.specs.declared.Triangle.{Triangle}
 use Rattle.rules.specs.Folds.{howMany}
 use Rattle.rules.specs.Sizes.{width, height, sound}
@@ -34,7 +35,7 @@ pub record Clipped (first past limit : ℕ) (r : Span) : Type 0 where
   pub before : (k : ℕ) → k < limit → k < r .from → (k < first) ⊎ (past ≤ k)
   pub beyond : (k : ℕ) → k < limit → r .to ≤ k → (k < first) ⊎ (past ≤ k)
 
-pub record RowsTouched (t : Triangle) (n : ℕ) (r : Span) : Type 0 where
+pub record RowsTouched (t : Vertices) (n : ℕ) (r : Span) : Type 0 where
   pub ordered : r .from ≤ r .to
   pub limited : r .to ≤ n
   pub before : (x y : ℕ) → y < n → y < r .from → insideAll t (sample x y) ≡ false
@@ -42,7 +43,7 @@ pub record RowsTouched (t : Triangle) (n : ℕ) (r : Span) : Type 0 where
 
 pub record FrameAsked (n : ℕ) (s : Screen) (t : Triangle) : Type 0 where
   pub is-sound : sound n s ≡ true
-  pub in-range : verticesInRange t ≡ true
+  pub in-range : verticesInRange (t .vertices) ≡ true
 
 pub record FrameDone (m : List ℕ) (s : Screen) (t : Triangle) (answer : Counts) (after : List ℕ) : Type 0 where
   pub covers : answer .covered ≡ coveredPixels t s

@@ -18,12 +18,13 @@ pub fn frame(ram: &mut [u8], s: Screen, t: Triangle) -> Counts
     requires { ⌜ FrameAsked (length (now ram)) s t ⌝ }
     ensures { λ r. ⌜ FrameDone (now (ram .entry)) s t r (now (ram .exit)) ⌝ }
 {
-    let d = sides(t);
+    let v = t.vertices;
+    let d = sides(v);
     let w = width(s.size);
-    let rows = touched_rows(t, height(s.size));
+    let rows = touched_rows(v, height(s.size));
     let end = rows.to;
     let mut y = rows.from;
-    let mut m = crossings_at(t, y);
+    let mut m = crossings_at(v, y);
     let mut covered: u32 = 0;
     let mut written: u32 = 0;
     while y < end {

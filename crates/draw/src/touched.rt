@@ -2,7 +2,7 @@
 use cover::Span;
 use cover::extent::first_touched;
 use cover::extent::past_touched;
-use rules::Triangle;
+use rules::Vertices;
 ghost use mathlib.Core.Path.{_≡_};
 ghost use mathlib.Core.Bool.{true};
 ghost use Rattle.rules.specs.Numbers.{verticesInRange};
@@ -31,11 +31,11 @@ fn clipped(first: u32, past: u32, limit: u32) -> Span
 }
 
 // The rows of a screen of this height.
-pub fn touched_rows(t: Triangle, height: u32) -> Span
-    requires { ⌜ verticesInRange t ≡ true ⌝ }
-    ensures { λ r. ⌜ RowsTouched t height r ⌝ }
+pub fn touched_rows(v: Vertices, height: u32) -> Span
+    requires { ⌜ verticesInRange v ≡ true ⌝ }
+    ensures { λ r. ⌜ RowsTouched v height r ⌝ }
 {
-    let first = first_touched(t.y1, t.y2, t.y3);
-    let past = past_touched(t.y1, t.y2, t.y3);
+    let first = first_touched(v.y1, v.y2, v.y3);
+    let past = past_touched(v.y1, v.y2, v.y3);
     clipped(first, past, height)
 }

@@ -1,7 +1,7 @@
 // The call that draws a triangle.
 use crate::frames::frame;
-use cover::bounds::triangle_too_large;
-use cover::bounds::vertices_in_range;
+use edges::ranges::triangle_too_large;
+use edges::ranges::vertices_in_range;
 use rules::Drawn;
 use rules::Screen;
 use rules::Triangle;
@@ -16,14 +16,15 @@ ghost use Rattle.rules.specs.Calls.{Draws};
 fn triangle_number(len: usize, s: Screen, t: Triangle) -> u32
     ensures { λ r. ⌜ r ≡ triangleNumber len s t ⌝ }
 {
+    let v = t.vertices;
     let first = screen_number(len, s);
     if first != 0 {
         return first;
     }
-    if !vertices_in_range(t) {
+    if !vertices_in_range(v) {
         return 6;
     }
-    if triangle_too_large(t, width(s.size), height(s.size)) {
+    if triangle_too_large(v, width(s.size), height(s.size)) {
         return 7;
     }
     0

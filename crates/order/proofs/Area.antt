@@ -11,10 +11,9 @@ use Rattle.ints.proofs.Order.{up, dn, is-self, is-add, eq-is}
 use Rattle.rules.specs.declared.Screen.{Screen}
 use Rattle.rules.specs.declared.Triangle.{Triangle}
 use Rattle.rules.specs.Sizes.{width, height}
-use Rattle.rules.specs.Triangles.{Point, edge1, edge2, edge3, dx, dy, edgeValue, positive, sample, covered, coveredPixels}
+use Rattle.rules.specs.Triangles.{Point, edge1, edge2, edge3, dx, dy, edgeValue, positive, sample, covered, coveredPixels, doubledArea}
 use Rattle.rules.proofs.Folds.{pixels-none}
 use Rattle.order.specs.Order.{Side, first, second, third, side}
-use Rattle.order.specs.Area.{doubledArea}
 use Rattle.order.proofs.Sides.{within, inside-is, inside-side}
 
 not-below : (v u w : ℤ) → within v u w ≡ true → dn v ≡ 0
@@ -83,12 +82,12 @@ module _
 -- the values of a triangle's edges sum to its doubled area, and its steps to 0
 module _ (t : Triangle) (p : Point) where
   abbrev ρ : List ℤ
-  ρ = t .x1 ∷ t .y1 ∷ t .x2 ∷ t .y2 ∷ t .x3 ∷ t .y3 ∷ p .px ∷ p .py ∷ []
+  ρ = t .vertices .x1 ∷ t .vertices .y1 ∷ t .vertices .x2 ∷ t .vertices .y2 ∷ t .vertices .x3 ∷ t .vertices .y3 ∷ p .px ∷ p .py ∷ []
 
   abbrev value : Exp → Exp → Exp → Exp → Exp
   value x1 y1 x2 y2 = (var 7 ⊖ y1) ⊗ (x2 ⊖ x1) ⊖ (var 6 ⊖ x1) ⊗ (y2 ⊖ y1)
 
-  values-sum : edgeValue (edge1 t) p +ℤ edgeValue (edge2 t) p +ℤ edgeValue (edge3 t) p ≡ doubledArea t
+  values-sum : edgeValue (edge1 (t .vertices)) p +ℤ edgeValue (edge2 (t .vertices)) p +ℤ edgeValue (edge3 (t .vertices)) p ≡ doubledArea (t .vertices)
   unfolding edgeValue doubledArea
   values-sum =
       solve ρ
@@ -99,26 +98,26 @@ module _ (t : Triangle) (p : Point) where
 steps-sum : (a b c : ℤ) → (b -ℤ a) +ℤ (c -ℤ b) +ℤ (a -ℤ c) ≡ pos 0
 steps-sum a b c = solve (a ∷ b ∷ c ∷ []) (var 1 ⊖ var 0 ⊕ (var 2 ⊖ var 1) ⊕ (var 0 ⊖ var 2)) (con (pos 0)) tt
 
-pub covered-area : (t : Triangle) (s : Screen) (x y : ℕ) → covered t s x y ≡ true → positive (doubledArea t) ≡ true
+pub covered-area : (t : Triangle) (s : Screen) (x y : ℕ) → covered t s x y ≡ true → positive (doubledArea (t .vertices)) ≡ true
 covered-area t s x y c =
     positive-sum
-    (edgeValue (edge1 t) (sample x y)) (edgeValue (edge2 t) (sample x y)) (edgeValue (edge3 t) (sample x y))
-    (dx (edge1 t)) (dx (edge2 t)) (dx (edge3 t))
-    (dy (edge1 t)) (dy (edge2 t)) (dy (edge3 t))
+    (edgeValue (edge1 (t .vertices)) (sample x y)) (edgeValue (edge2 (t .vertices)) (sample x y)) (edgeValue (edge3 (t .vertices)) (sample x y))
+    (dx (edge1 (t .vertices))) (dx (edge2 (t .vertices))) (dx (edge3 (t .vertices)))
+    (dy (edge1 (t .vertices))) (dy (edge2 (t .vertices))) (dy (edge3 (t .vertices)))
     (test first) (test second) (test third)
-    (steps-sum (t .x1) (t .x2) (t .x3))
-    (steps-sum (t .y1) (t .y2) (t .y3))
-    (doubledArea t)
+    (steps-sum (t .vertices .x1) (t .vertices .x2) (t .vertices .x3))
+    (steps-sum (t .vertices .y1) (t .vertices .y2) (t .vertices .y3))
+    (doubledArea (t .vertices))
     (values-sum t (sample x y))
   where
     test : (i : Side) → within (edgeValue (side t i) (sample x y)) (dx (side t i)) (dy (side t i)) ≡ true
     test i = sym (inside-is (side t i) (sample x y)) ∙ inside-side t s x y i c
 
-module _ (t : Triangle) (s : Screen) (n : positive (doubledArea t) ≡ false) where
+module _ (t : Triangle) (s : Screen) (n : positive (doubledArea (t .vertices)) ≡ false) where
   pub no-area : (x y : ℕ) → covered t s x y ≡ false
   no-area x y = go (covered t s x y) (covered-area t s x y)
     where
-      go : (b : Bool) → (b ≡ true → positive (doubledArea t) ≡ true) → b ≡ false
+      go : (b : Bool) → (b ≡ true → positive (doubledArea (t .vertices)) ≡ true) → b ≡ false
       go true h = sym (h refl) ∙ n
       go false h = refl
 

@@ -31,9 +31,9 @@ pub data Side : Type 0 where
   first second third : Side
 
 abbrev pub side : Triangle → Side → Edge
-side t first = edge1 t
-side t second = edge2 t
-side t third = edge3 t
+side t first = edge1 (t .vertices)
+side t second = edge2 (t .vertices)
+side t third = edge3 (t .vertices)
 
 -- the same edge in the opposite direction
 abbrev pub turned : Edge → Edge

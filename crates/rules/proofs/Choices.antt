@@ -2,7 +2,7 @@
 use Prim.Native.Nat.{ℕ, _≤_}
 use mathlib.Core.Path.{_≡_, refl, sym}
 use mathlib.Core.Logic.{_≢_}
-use mathlib.Core.Bool.{Bool, true, false, not}
+use mathlib.Core.Bool.{Bool, true, false, not, _&&_}
 use native.Mathlib.Omega.{arith}
 use lib.Dec.{leb, ltb}
 use borrow.Author.Tests.{leb-true, leb-false, lt-ltb, le-ltb, eq-eqb, ne-eqb}
@@ -25,3 +25,7 @@ accepted-no n done kept h = rw (ne-eqb n 0 h)
 
 pub accepted-yes : {A : Type 0} (n : ℕ) (done kept : A) → n ≡ 0 → accepted n done kept ≡ done
 accepted-yes n done kept h = rw (eq-eqb n 0 h)
+
+pub and-true : {a b : Bool} → a && b ≡ true → (a ≡ true) × (b ≡ true)
+and-true {a = true} {b} h = (refl, h)
+and-true {a = false} {b} h = (h, absurd (let z : _≡_ {A = ℕ} 0 1 = cc in omega arith))

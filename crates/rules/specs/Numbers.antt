@@ -5,6 +5,7 @@ use lib.Dec.{ltb}
 use lib.IntN.{ℤ, pos, negsuc}
 use lib.Signed.{leZ}
 use Rattle.rules.specs.declared.Screen.{Screen}
+use Rattle.rules.specs.declared.Vertices.{Vertices}
 use Rattle.rules.specs.declared.Triangle.{Triangle}
 use Rattle.rules.specs.Folds.{pixels, choose}
 use Rattle.rules.specs.Sizes.{ramLimit, width, height, sound}
@@ -18,14 +19,14 @@ tooLong ramLength = ltb ramLimit ramLength
 abbrev pub vertexInRange : ℤ → Bool
 vertexInRange v = leZ (negsuc 8191) v && leZ v (pos 8191)
 
-unfoldable pub verticesInRange : Triangle → Bool
-verticesInRange t =
-    vertexInRange (t .x1)
-    && vertexInRange (t .y1)
-    && vertexInRange (t .x2)
-    && vertexInRange (t .y2)
-    && vertexInRange (t .x3)
-    && vertexInRange (t .y3)
+unfoldable pub verticesInRange : Vertices → Bool
+verticesInRange v =
+    vertexInRange (v .x1)
+    && vertexInRange (v .y1)
+    && vertexInRange (v .x2)
+    && vertexInRange (v .y2)
+    && vertexInRange (v .x3)
+    && vertexInRange (v .y3)
 
 -- 7: "an edge value at some pixel of the screen outside signed 32 bits"
 abbrev pub inSigned32 : ℤ → Bool
@@ -34,9 +35,9 @@ inSigned32 v = leZ (negsuc 2147483647) v && leZ v (pos 2147483647)
 unfoldable pub edgeTooLarge : Edge → ℕ → ℕ → Bool
 edgeTooLarge e x y = not (inSigned32 (edgeValue e (sample x y)))
 
-unfoldable pub triangleTooLarge : Triangle → ℕ → ℕ → Bool
-triangleTooLarge t w h =
-    ltb 0 (pixels (λ x y. edgeTooLarge (edge1 t) x y || edgeTooLarge (edge2 t) x y || edgeTooLarge (edge3 t) x y) w h)
+unfoldable pub triangleTooLarge : Vertices → ℕ → ℕ → Bool
+triangleTooLarge v w h =
+    ltb 0 (pixels (λ x y. edgeTooLarge (edge1 v) x y || edgeTooLarge (edge2 v) x y || edgeTooLarge (edge3 v) x y) w h)
 
 -- "a clear 3 and 5"
 unfoldable pub screenNumber : ℕ → Screen → ℕ
@@ -54,5 +55,5 @@ unfoldable pub triangleNumber : ℕ → Screen → Triangle → ℕ
 triangleNumber ramLength s t =
     choose (tooLong ramLength) 3
     (choose (not (sound ramLength s)) 5
-    (choose (not (verticesInRange t)) 6
-    (choose (triangleTooLarge t (width (s .size)) (height (s .size))) 7 0)))
+    (choose (not (verticesInRange (t .vertices))) 6
+    (choose (triangleTooLarge (t .vertices) (width (s .size)) (height (s .size))) 7 0)))

@@ -7,6 +7,7 @@ use lib.IntN.{ℤ, pos, negsuc, _+ℤ_, _-ℤ_, _*ℤ_}
 use Rattle.ints.specs.Modulo.{mod32}
 use Rattle.rules.specs.declared.Screen.{Screen}
 use Rattle.rules.specs.declared.Plane.{Plane}
+use Rattle.rules.specs.declared.Vertices.{Vertices}
 use Rattle.rules.specs.declared.Triangle.{Triangle}
 use Rattle.rules.specs.Folds.{upto, pixels, choose}
 use Rattle.ram.specs.Ram.{loadHalf}
@@ -74,32 +75,36 @@ negative (pos n) = false
 negative (negsuc n) = true
 
 -- the edges whose zeros are inside: "dy < 0, or .. dy = 0 and dx > 0 (tie rule, house)"
-unfoldable pub keepsZero : Edge → Bool
-keepsZero e = negative (dy e) || isZero (dy e) && positive (dx e)
+unfoldable pub keepsZero : ℤ → ℤ → Bool
+keepsZero dx dy = negative dy || isZero dy && positive dx
 
 -- "The pixel is inside if the value is positive, or if it is zero and" the tie rule keeps it
 unfoldable pub inside : Edge → Point → Bool
-inside e p = positive (edgeValue e p) || isZero (edgeValue e p) && keepsZero e
+inside e p = positive (edgeValue e p) || isZero (edgeValue e p) && keepsZero (dx e) (dy e)
 
 -- the three edges, "taken in the vertices' order"
-abbrev pub edge1 : Triangle → Edge
-edge1 t = record { x1 = t .x1; y1 = t .y1; x2 = t .x2; y2 = t .y2 }
+abbrev pub edge1 : Vertices → Edge
+edge1 v = record { x1 = v .x1; y1 = v .y1; x2 = v .x2; y2 = v .y2 }
 
-abbrev pub edge2 : Triangle → Edge
-edge2 t = record { x1 = t .x2; y1 = t .y2; x2 = t .x3; y2 = t .y3 }
+abbrev pub edge2 : Vertices → Edge
+edge2 v = record { x1 = v .x2; y1 = v .y2; x2 = v .x3; y2 = v .y3 }
 
-abbrev pub edge3 : Triangle → Edge
-edge3 t = record { x1 = t .x3; y1 = t .y3; x2 = t .x1; y2 = t .y1 }
+abbrev pub edge3 : Vertices → Edge
+edge3 v = record { x1 = v .x3; y1 = v .y3; x2 = v .x1; y2 = v .y1 }
 
-unfoldable pub insideAll : Triangle → Point → Bool
-insideAll t p = inside (edge1 t) p && inside (edge2 t) p && inside (edge3 t) p
+unfoldable pub insideAll : Vertices → Point → Bool
+insideAll v p = inside (edge1 v) p && inside (edge2 v) p && inside (edge3 v) p
+
+-- twice the area: positive for the winding that draws. "A triangle turned the other way, or of no area, .. covers none."
+unfoldable pub doubledArea : Vertices → ℤ
+doubledArea v = (v .x2 -ℤ v .x1) *ℤ (v .y3 -ℤ v .y1) -ℤ (v .x3 -ℤ v .x1) *ℤ (v .y2 -ℤ v .y1)
 
 abbrev pub onScreen : Screen → ℕ → ℕ → Bool
 onScreen s x y = ltb x (width (s .size)) && ltb y (height (s .size))
 
 -- "It is covered if it is on the screen and inside all three edges"
 unfoldable pub covered : Triangle → Screen → ℕ → ℕ → Bool
-covered t s x y = onScreen s x y && insideAll t (sample x y)
+covered t s x y = onScreen s x y && insideAll (t .vertices) (sample x y)
 
 -- "A covered pixel is written, colour and depth, if its depth is at most the stored depth."
 unfoldable pub written : Triangle → Screen → List ℕ → ℕ → ℕ → Bool

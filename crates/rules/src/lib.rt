@@ -16,15 +16,21 @@ pub struct Plane {
     pub b: i32,
 }
 
-// Three vertices in eighths of a pixel and four planes.
+// Three vertices in eighths of a pixel, x to the right, y downward.
 #[repr(C)]
-pub struct Triangle {
+pub struct Vertices {
     pub x1: i32,
     pub y1: i32,
     pub x2: i32,
     pub y2: i32,
     pub x3: i32,
     pub y3: i32,
+}
+
+// Three vertices and four planes.
+#[repr(C)]
+pub struct Triangle {
+    pub vertices: Vertices,
     pub depth: Plane,
     pub red: Plane,
     pub green: Plane,

@@ -18,12 +18,7 @@ noPlane = record { c = pos 0; a = pos 0; b = pos 0 }
 
 abbrev pub corners : ℕ → ℕ → ℕ → ℕ → ℕ → ℕ → Triangle
 corners x1 y1 x2 y2 x3 y3 = record {
-  x1 = pos x1;
-  y1 = pos y1;
-  x2 = pos x2;
-  y2 = pos y2;
-  x3 = pos x3;
-  y3 = pos y3;
+  vertices = record { x1 = pos x1; y1 = pos y1; x2 = pos x2; y2 = pos y2; x3 = pos x3; y3 = pos y3 };
   depth = noPlane;
   red = noPlane;
   green = noPlane;

@@ -8,9 +8,11 @@ use mir.Val.{toZ, ofZ}
 use Rattle.ints.proofs.Machine.{Code, word-of, need, reads-as, size-of}
 use Rattle.rules.specs.Triangles.{Edge, dy}
 use Rattle.cover.specs.Units.{raise, Rounded}
-use Rattle.cover.specs.Side.{edgeFrom, rising, acrossOf, scaleOf}
-use Rattle.cover.proofs.Along.{EdgeWithin, edge-within, read-edge, read-in-range}
-use Rattle.cover.proofs.Codes as code
+use Rattle.edges.specs.Edges.{edgeFrom}
+use Rattle.cover.specs.Side.{rising, acrossOf, scaleOf}
+use Rattle.edges.proofs.Within.{EdgeWithin, edge-within, read-edge, read-in-range}
+use Rattle.edges.proofs.Codes as code
+use Rattle.cover.proofs.Signs.{scaled-read}
 use Rattle.cover.proofs.Quotients.{rounded-more}
 use Rattle.cover.proofs.Crossing.{rising-within, scaled-within}
 use Rattle.cover.proofs.crossed.crossing.Statement.{statement}
@@ -48,7 +50,7 @@ is-scaled : (c : tie.After-rising-value) →
     scaleOf (toZ w64 (word-of (dyC s))) *ℤ toZ w64 (ofZ w64 (c .rising-value .result)) ≡ scaleOf (dy (edge s)) *ℤ rising (edge s) 0 (s .args .y)
 is-scaled c =
     let s = c .before in
-    code.scaled-read (dyC s) tt (is-rising c) (rising-within (edge s) (in-range s) (s .args .y) (s .pre .1)) (omega arith)
+    scaled-read (dyC s) tt (is-rising c) (rising-within (edge s) (in-range s) (s .args .y) (s .pre .1)) (omega arith)
 
 in-ticks-requires : tie.Need-in-ticks-requires
 in-ticks-requires c κs =

@@ -3,8 +3,9 @@ use Prim.Native.Nat.{ℕ}
 use mathlib.Core.Path.{_≡_, subst}
 use mathlib.Core.Bool.{true}
 use Rattle.rules.specs.Triangles.{Edge, edge1, edge2, edge3}
-use Rattle.cover.specs.Side.{edgeInRange, CrossingOf}
-use Rattle.cover.proofs.Along.{edges-in-range, read, read-edge, read-in-range}
+use Rattle.edges.specs.Edges.{edgeInRange}
+use Rattle.cover.specs.Side.{CrossingOf}
+use Rattle.edges.proofs.Within.{edges-in-range, read, read-edge, read-in-range}
 use Rattle.cover.proofs.crossed.crossings_at.Statement.{statement}
 use Rattle.cover.proofs.crossed.crossings_at.Tie as tie
 
@@ -15,22 +16,22 @@ of e y {m} h o = subst (λ (k : Edge). CrossingOf k y m) (read-edge e h) o
 crossing-requires : tie.Need-crossing-requires
 crossing-requires c κs =
     let s = c .before .before .before .before in
-    (read-in-range (edge1 (s .args .t)) (edges-in-range (s .args .t) (s .pre .0) .0), s .pre .1)
+    (read-in-range (edge1 (s .args .v)) (edges-in-range (s .args .v) (s .pre .0) .0), s .pre .1)
 
 crossing-requires-2 : tie.Need-crossing-requires-2
 crossing-requires-2 c κs =
     let s = c .before .before .before .before .before .before .before .before .before in
-    (read-in-range (edge2 (s .args .t)) (edges-in-range (s .args .t) (s .pre .0) .1), s .pre .1)
+    (read-in-range (edge2 (s .args .v)) (edges-in-range (s .args .v) (s .pre .0) .1), s .pre .1)
 
 crossing-requires-3 : tie.Need-crossing-requires-3
 crossing-requires-3 c κs =
     let s = c .before .before .before .before .before .before .before .before .before .before .before .before .before .before in
-    (read-in-range (edge3 (s .args .t)) (edges-in-range (s .args .t) (s .pre .0) .2), s .pre .1)
+    (read-in-range (edge3 (s .args .v)) (edges-in-range (s .args .v) (s .pre .0) .2), s .pre .1)
 
 returns : tie.Need-returns
 returns c =
     let s = c .before .before .before .before .before .before .before .before .before .before .before .before .before .before .before in
-    let t = s .args .t in
+    let t = s .args .v in
     let h = edges-in-range t (s .pre .0) in
     record {
       of1 = of (edge1 t) (s .args .y) (h .0) (c .before .before .before .before .before .before .before .before .before .before .crossing .ensures);

@@ -9,7 +9,7 @@ use Rattle.ints.proofs.Poly.{var, con, _⊕_}
 use Rattle.ints.proofs.Order.{le-of, le-to}
 use Rattle.ints.proofs.Bounds.{Within, within-lo}
 use Rattle.ints.proofs.Machine.{got-arg, Code, known, cast, _⊞_, need, got-of, natural-as, need-unsigned}
-use Rattle.cover.proofs.Along.{vertex-within}
+use Rattle.edges.proofs.Within.{vertex-within}
 use Rattle.cover.proofs.extent.raised.Statement.{statement}
 use Rattle.cover.proofs.extent.raised.Tie as tie
 

@@ -1,7 +1,8 @@
 -- The test of dy says which sign dx's product takes.
 use mir.Syntax.{w64}
 use Rattle.ints.proofs.Machine.{got-arg, Code, known, _⊟_, _⊠_, need, reads-as}
-use Rattle.cover.proofs.Codes.{zeroC, eightC, read-above}
+use Rattle.edges.proofs.Codes.{eightC}
+use Rattle.cover.proofs.Signs.{zeroC, read-above}
 use Rattle.cover.proofs.setup.down.Statement.{statement}
 use Rattle.cover.proofs.setup.down.Tie as tie
 

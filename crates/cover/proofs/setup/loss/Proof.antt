@@ -1,19 +1,22 @@
 -- The two tests of dy and the one of dx say which case of the tie rule holds.
-use Rattle.cover.proofs.Along.{positive-only}
-use Rattle.cover.proofs.Codes.{read-above, read-below, neither-zero}
+use Rattle.rules.specs.Triangles.{keepsZero}
+use Rattle.cover.proofs.Signs.{positive-only, read-above, read-below, neither-zero}
 use Rattle.cover.proofs.setup.loss.Statement.{statement}
 use Rattle.cover.proofs.setup.loss.Tie as tie
 
 returns : tie.Need-returns
+unfolding keepsZero
 returns c =
     let a = c .before in
     let z = positive-only (a .args .dy) (read-above (a .args .dy) (a .fits .dy) (c .if1 .taken)) in
     rw (z .0, z .1)
 
 returns-2 : tie.Need-returns-2
+unfolding keepsZero
 returns-2 c = let a = c .before .before in rw (read-below (a .args .dy) (a .fits .dy) (c .if2 .taken))
 
 returns-3 : tie.Need-returns-3
+unfolding keepsZero
 returns-3 c =
     let a = c .before .before .before in
     let n = read-below (a .args .dy) (a .fits .dy) (c .before .if2 .left) in
@@ -21,6 +24,7 @@ returns-3 c =
     rw (n, z, read-above (a .args .dx) (a .fits .dx) (c .if3 .taken))
 
 returns-4 : tie.Need-returns-4
+unfolding keepsZero
 returns-4 c =
     let a = c .before .before .before in
     let n = read-below (a .args .dy) (a .fits .dy) (c .before .if2 .left) in

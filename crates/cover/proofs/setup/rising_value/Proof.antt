@@ -5,12 +5,15 @@ use lib.IntN.{ℤ, pos, negsuc, _-ℤ_}
 use mir.Syntax.{w64}
 use Rattle.ints.proofs.Bounds.{Within}
 use Rattle.ints.proofs.Machine.{got-in, Code, known, _⊟_, need, reads-as}
-use Rattle.rules.specs.Folds.{choose}
-use Rattle.rules.specs.Triangles.{Edge, sample, edgeValue, keepsZero}
-use Rattle.cover.specs.Side.{edgeFrom, lossOf, sided}
-use Rattle.cover.proofs.Along.{EdgeWithin, edge-within, loss-within, read-in-range}
-use Rattle.cover.proofs.Codes as code
-use Rattle.cover.proofs.Codes.{opposedC, answeredC, answered, code-above}
+use Rattle.rules.specs.Triangles.{Edge, sample, edgeValue}
+use Rattle.rules.specs.Triangles as T
+use Rattle.edges.specs.Edges.{edgeFrom}
+use Rattle.cover.specs.Side.{loss, sided}
+use Rattle.edges.proofs.Within.{EdgeWithin, edge-within, read-in-range}
+use Rattle.cover.proofs.Along.{loss-within}
+use Rattle.edges.proofs.Codes as code
+use Rattle.edges.proofs.Codes.{answeredC, answered}
+use Rattle.cover.proofs.Signs.{opposedC, code-above}
 use Rattle.cover.proofs.setup.rising_value.Statement.{statement}
 use Rattle.cover.proofs.setup.rising_value.Tie as tie
 
@@ -26,9 +29,8 @@ dx c = code.dxC (edge c) (in-range c)
 abbrev dy : tie.Start → Code w64
 dy c = code.dyC (edge c) (in-range c)
 
-lost : (c : tie.After-loss) → c .loss .result ≡ choose (keepsZero (edge (c .before .before))) (pos 0) (pos 1)
-unfolding keepsZero
-lost c = c .loss .ensures ∙ ap₂ lossOf (reads-as (dx (c .before .before)) tt) (reads-as (dy (c .before .before)) tt)
+lost : (c : tie.After-loss) → c .loss .result ≡ loss (T.dx (edge (c .before .before))) (T.dy (edge (c .before .before)))
+lost c = c .loss .ensures ∙ ap₂ loss (reads-as (dx (c .before .before)) tt) (reads-as (dy (c .before .before)) tt)
 
 valued : (c : tie.After-edge-value) → c .edge-value .result ≡ edgeValue (edge (c .before)) (sample 0 (c .before .args .y))
 valued c = answered (edge (c .before)) (sample 0 (c .before .args .y)) (c .before .pre .0) (c .edge-value .ensures)
@@ -40,10 +42,10 @@ value c =
 abbrev lowered : tie.After-loss → Code w64
 lowered c =
     value (c .before)
-    ⊟ known (got-in {b = 1} (subst (Within 1) (sym (lost c)) (loss-within (keepsZero (edge (c .before .before))))) tt)
+    ⊟ known (got-in {b = 1} (subst (Within 1) (sym (lost c)) (loss-within (T.dx (edge (c .before .before))) (T.dy (edge (c .before .before))))) tt)
 
-abbrev turned : tie.After-loss → Code w64
-turned c = opposedC (lowered c)
+abbrev opposed : tie.After-loss → Code w64
+opposed c = opposedC (lowered c)
 
 cast-dx : tie.Need-cast-dx
 cast-dx c = need (code.x2C (edge c) (in-range c)) tt
@@ -73,7 +75,7 @@ sub-v : tie.Need-sub-v
 sub-v c = need (lowered c) tt
 
 sub-result : tie.Need-sub-result
-sub-result c = need (turned (c .before)) tt
+sub-result c = need (opposed (c .before)) tt
 
 start : (c : tie.After-loss) → c .before .edge-value .result -ℤ c .loss .result ≡ sided (edge (c .before .before)) 0 (c .before .before .args .y)
 unfolding sided
@@ -82,7 +84,7 @@ start c = ap₂ _-ℤ_ (valued (c .before)) (lost c)
 returns : tie.Need-returns
 returns c =
     let l = c .before in
-    rw (code-above (dy (l .before .before)) tt (c .if1 .taken)) (reads-as (turned l) tt ∙ ap (λ (z : ℤ). negsuc 0 -ℤ z) (start l))
+    rw (code-above (dy (l .before .before)) tt (c .if1 .taken)) (reads-as (opposed l) tt ∙ ap (λ (z : ℤ). negsuc 0 -ℤ z) (start l))
 
 returns-2 : tie.Need-returns-2
 returns-2 c =

@@ -8,10 +8,11 @@ use Rattle.ints.proofs.Bounds.{Within, within-sub}
 use Rattle.ints.proofs.Machine.{Code, word-of, need, reads-as, size-of}
 use Rattle.rules.specs.Triangles.{Edge, dx, dy}
 use Rattle.cover.specs.Units.{lift, Rounded}
-use Rattle.cover.specs.Side.{edgeFrom, acrossOf, scaleOf, downOf}
-use Rattle.cover.proofs.Along.{EdgeWithin, edge-within}
-use Rattle.cover.proofs.Codes as code
-use Rattle.cover.proofs.Codes.{code-above}
+use Rattle.edges.specs.Edges.{edgeFrom}
+use Rattle.cover.specs.Side.{acrossOf, scaleOf, downOf}
+use Rattle.edges.proofs.Within.{EdgeWithin, edge-within}
+use Rattle.edges.proofs.Codes as code
+use Rattle.cover.proofs.Signs.{code-above, scaled-read}
 use Rattle.cover.proofs.Crossing.{down-within, down-scaled-within}
 use Rattle.cover.proofs.setup.side.Statement.{statement}
 use Rattle.cover.proofs.setup.side.Tie as tie
@@ -61,7 +62,7 @@ is-scaled : (c : tie.After-down) →
     scaleOf (toZ w64 (word-of (dyC (c .before)))) *ℤ toZ w64 (ofZ w64 (c .down .result)) ≡ scaleOf (dy e) *ℤ downOf (dx e) (dy e)
 is-scaled c =
     let e = edge (c .before) in
-    code.scaled-read (dyC (c .before)) tt (is-down c) (down-within (dx e) (dy e) (small (c .before))) (omega arith)
+    scaled-read (dyC (c .before)) tt (is-down c) (down-within (dx e) (dy e) (small (c .before))) (omega arith)
 
 in-ticks-requires : tie.Need-in-ticks-requires
 in-ticks-requires c κs =

@@ -3,8 +3,9 @@ use mathlib.Core.Path.{_≡_, subst}
 use mathlib.Core.Bool.{true}
 use Rattle.rules.specs.Triangles.{Edge, edge1, edge2, edge3}
 use Rattle.cover.specs.declared.Side.{Side}
-use Rattle.cover.specs.Side.{SideOf, edgeInRange}
-use Rattle.cover.proofs.Along.{edges-in-range, read, read-edge, read-in-range}
+use Rattle.edges.specs.Edges.{edgeInRange}
+use Rattle.cover.specs.Side.{SideOf}
+use Rattle.edges.proofs.Within.{edges-in-range, read, read-edge, read-in-range}
 use Rattle.cover.proofs.setup.sides.Statement.{statement}
 use Rattle.cover.proofs.setup.sides.Tie as tie
 
@@ -15,22 +16,22 @@ of e {d} h o = subst (λ (k : Edge). SideOf k d) (read-edge e h) o
 side-requires : tie.Need-side-requires
 side-requires c κs =
     let s = c .before .before .before .before in
-    read-in-range (edge1 (s .args .t)) (edges-in-range (s .args .t) (s .pre) .0)
+    read-in-range (edge1 (s .args .v)) (edges-in-range (s .args .v) (s .pre) .0)
 
 side-requires-2 : tie.Need-side-requires-2
 side-requires-2 c κs =
     let s = c .before .before .before .before .before .before .before .before .before in
-    read-in-range (edge2 (s .args .t)) (edges-in-range (s .args .t) (s .pre) .1)
+    read-in-range (edge2 (s .args .v)) (edges-in-range (s .args .v) (s .pre) .1)
 
 side-requires-3 : tie.Need-side-requires-3
 side-requires-3 c κs =
     let s = c .before .before .before .before .before .before .before .before .before .before .before .before .before .before in
-    read-in-range (edge3 (s .args .t)) (edges-in-range (s .args .t) (s .pre) .2)
+    read-in-range (edge3 (s .args .v)) (edges-in-range (s .args .v) (s .pre) .2)
 
 returns : tie.Need-returns
 returns c =
     let s = c .before .before .before .before .before .before .before .before .before .before .before .before .before .before .before in
-    let t = s .args .t in
+    let t = s .args .v in
     let h = edges-in-range t (s .pre) in
     record {
       of1 = of (edge1 t) (h .0) (c .before .before .before .before .before .before .before .before .before .before .side .ensures);

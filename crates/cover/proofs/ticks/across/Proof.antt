@@ -10,8 +10,8 @@ use Rattle.ints.proofs.Poly.{var, con, neg, _⊖_, _⊗_, solve}
 use Rattle.ints.proofs.Order.{le-of, lt-to, ltZ-true}
 use Rattle.ints.proofs.Bounds.{abs-neg, abs-mul}
 use Rattle.ints.proofs.Machine.{got-arg, Code, known, _⊟_, _⊠_, need, got-of, reads-as, need-unsigned}
-use Rattle.cover.proofs.Along.{below, positive-true}
-use Rattle.cover.proofs.Codes.{zeroC, eightC, read-above, read-below, above-zero, below-zero, neither-zero}
+use Rattle.cover.proofs.Signs.{below, positive-true, zeroC, read-above, read-below, above-zero, below-zero, neither-zero}
+use Rattle.edges.proofs.Codes.{eightC}
 use Rattle.cover.proofs.ticks.across.Statement.{statement}
 use Rattle.cover.proofs.ticks.across.Tie as tie
 

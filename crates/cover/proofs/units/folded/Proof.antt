@@ -8,16 +8,15 @@ use mir.Syntax.{w64}
 use Rattle.ints.proofs.Poly.{var, con, _⊖_}
 use Rattle.ints.proofs.Order.{le-of, lt-to, ltZ-true, ltZ-false}
 use Rattle.ints.proofs.Machine.{got-arg, Code, known, need, got-of, natural-as, need-unsigned}
-use Rattle.cover.proofs.Along.{below}
-use Rattle.cover.proofs.Codes.{opposedC, read-below}
+use Rattle.cover.proofs.Signs.{below, opposedC, read-below}
 use Rattle.cover.proofs.units.folded.Statement.{statement}
 use Rattle.cover.proofs.units.folded.Tie as tie
 
 abbrev given : tie.Start → Code w64
 given c = known (got-arg (c .fits .z) (record { within = c .pre }))
 
-abbrev turned : tie.Start → Code w64
-turned c = opposedC (given c)
+abbrev opposed : tie.Start → Code w64
+opposed c = opposedC (given c)
 
 positive : (c : tie.Then1) → pos 0 ≤ℤ (negsuc 0 -ℤ c .before .args .z)
 positive c =
@@ -32,15 +31,15 @@ not-negative c =
     ltZ-false z (pos 0) (below z ∙ read-below z (c .before .fits .z) (c .if1 .left))
 
 sub-result : tie.Need-sub-result
-sub-result c = need (turned (c .before)) tt
+sub-result c = need (opposed (c .before)) tt
 
 cast-result : tie.Need-cast-result
-cast-result c = need-unsigned w64 (got-of (turned (c .before)) tt) (positive c) tt
+cast-result c = need-unsigned w64 (got-of (opposed (c .before)) tt) (positive c) tt
 
 returns : tie.Need-returns
 returns c =
     rw (read-below (c .before .args .z) (c .before .fits .z) (c .if1 .taken))
-    (natural-as (turned (c .before)) tt (positive c))
+    (natural-as (opposed (c .before)) tt (positive c))
 
 cast-result-2 : tie.Need-cast-result-2
 cast-result-2 c = need-unsigned w64 (got-of (given (c .before)) tt) (not-negative c) tt

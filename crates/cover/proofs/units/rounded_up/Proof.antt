@@ -11,7 +11,7 @@ use Rattle.ints.proofs.Order.{Is, is-pos, is-negsuc, is-sub, is-nat}
 use Rattle.rules.specs.Folds.{choose}
 use Rattle.rules.specs.Triangles.{negative}
 use Rattle.cover.specs.Units.{Rounded}
-use Rattle.cover.proofs.Codes.{read-below}
+use Rattle.cover.proofs.Signs.{read-below}
 use Rattle.cover.proofs.Quotients.{rounded-on, rounded-back}
 use borrow.Author.Needs.{needs}
 use Rattle.cover.proofs.units.rounded_up.Statement.{statement}

@@ -4,7 +4,7 @@ use mathlib.Core.Path.{_≡_}
 use mathlib.Core.Logic.{_⊎_, ⊎-elim}
 use mathlib.Core.Bool.{false}
 use Rattle.rules.specs.Triangles.{sample, insideAll}
-use Rattle.cover.proofs.Along.{six}
+use Rattle.edges.proofs.Within.{six}
 use Rattle.draw.proofs.Touch.{still-in, read-before, read-beyond, row-before, row-beyond}
 use borrow.Author.Needs.{needs}
 use Rattle.draw.proofs.touched.touched_rows.Statement.{statement}
@@ -13,14 +13,14 @@ use Rattle.draw.proofs.touched.touched_rows.Tie as tie
 first-touched-requires : tie.Need-first-touched-requires
 first-touched-requires c κs =
     let s = c .before .before .before in
-    let h = six (s .args .t) (s .pre) in
-    (still-in (s .args .t .y1) (h .in-y1), still-in (s .args .t .y2) (h .in-y2), still-in (s .args .t .y3) (h .in-y3))
+    let h = six (s .args .v) (s .pre) in
+    (still-in (s .args .v .y1) (h .in-y1), still-in (s .args .v .y2) (h .in-y2), still-in (s .args .v .y3) (h .in-y3))
 
 past-touched-requires : tie.Need-past-touched-requires
 past-touched-requires c κs =
     let s = c .before .before .before .before .before .before .before in
-    let h = six (s .args .t) (s .pre) in
-    (still-in (s .args .t .y1) (h .in-y1), still-in (s .args .t .y2) (h .in-y2), still-in (s .args .t .y3) (h .in-y3))
+    let h = six (s .args .v) (s .pre) in
+    (still-in (s .args .v .y1) (h .in-y1), still-in (s .args .v .y2) (h .in-y2), still-in (s .args .v .y3) (h .in-y3))
 
 clipped-requires : tie.Need-clipped-requires
 clipped-requires c κs = search needs
@@ -28,7 +28,7 @@ clipped-requires c κs = search needs
 returns : tie.Need-returns
 returns c =
     let s = c .before .before .before .before .before .before .before .before .before in
-    let t = s .args .t in
+    let t = s .args .v in
     let h = six t (s .pre) in
     let f = c .before .before .before .before .before .first-touched in
     let p = c .before .past-touched in

@@ -18,7 +18,7 @@ screen-number-requires c κs = search needs
 
 returns : tie.Need-returns
 returns c =
-    let a = c .before .before .args in
+    let a = c .before .before .before .args in
     let e = c .before .screen-number .ensures in
     e ∙ screen-first (a .len) (a .s) (a .t) (λ z. c .if1 .taken (e ∙ z))
 
@@ -27,9 +27,9 @@ vertices-in-range-requires c κs = search needs
 
 returns-2 : tie.Need-returns-2
 returns-2 c =
-    let a = c .before .before .before .before .args in
+    let a = c .before .before .before .before .before .args in
     let z = then-triangle (a .len) (a .s) (a .t) (sym (c .before .before .before .screen-number .ensures) ∙ c .before .before .if1 .left) in
-    sym (z ∙ ap (λ (v : Bool). choose (not v) 6 (choose (triangleTooLarge (a .t) (width (a .s .size)) (height (a .s .size))) 7 0)) (sym (c .before .vertices-in-range .ensures) ∙ not-true _ (c .if2 .taken)))
+    sym (z ∙ ap (λ (v : Bool). choose (not v) 6 (choose (triangleTooLarge (a .t .vertices) (width (a .s .size)) (height (a .s .size))) 7 0)) (sym (c .before .vertices-in-range .ensures) ∙ not-true _ (c .if2 .taken)))
 
 width-requires : tie.Need-width-requires
 width-requires c κs = search needs
@@ -49,22 +49,22 @@ triangle-too-large-requires c κs =
 
 returns-3 : tie.Need-returns-3
 returns-3 c =
-    let a = c .before .before .before .before .before .before .before .before .args in
+    let a = c .before .before .before .before .before .before .before .before .before .args in
     let z = then-triangle (a .len) (a .s) (a .t) (sym (c .before .before .before .before .before .before .before .screen-number .ensures) ∙ c .before .before .before .before .before .before .if1 .left) in
-    let v : verticesInRange (a .t) ≡ true = sym (c .before .before .before .before .before .vertices-in-range .ensures) ∙ not-false _ (c .before .before .before .before .if2 .left) in
-    let w : triangleTooLarge (a .t) (width (a .s .size)) (height (a .s .size)) ≡ true =
-    ap₂ (triangleTooLarge (a .t)) (sym (c .before .before .before .width .ensures)) (sym (c .before .before .height .ensures))
+    let v : verticesInRange (a .t .vertices) ≡ true = sym (c .before .before .before .before .before .vertices-in-range .ensures) ∙ not-false _ (c .before .before .before .before .if2 .left) in
+    let w : triangleTooLarge (a .t .vertices) (width (a .s .size)) (height (a .s .size)) ≡ true =
+    ap₂ (triangleTooLarge (a .t .vertices)) (sym (c .before .before .before .width .ensures)) (sym (c .before .before .height .ensures))
     ∙ sym (c .before .triangle-too-large .ensures)
     ∙ c .if3 .taken in
     sym (z ∙ ap₂ (λ (p q : Bool). choose (not p) 6 (choose q 7 0)) v w)
 
 returns-4 : tie.Need-returns-4
 returns-4 c =
-    let a = c .before .before .before .before .before .before .before .before .args in
+    let a = c .before .before .before .before .before .before .before .before .before .args in
     let z = then-triangle (a .len) (a .s) (a .t) (sym (c .before .before .before .before .before .before .before .screen-number .ensures) ∙ c .before .before .before .before .before .before .if1 .left) in
-    let v : verticesInRange (a .t) ≡ true = sym (c .before .before .before .before .before .vertices-in-range .ensures) ∙ not-false _ (c .before .before .before .before .if2 .left) in
-    let w : triangleTooLarge (a .t) (width (a .s .size)) (height (a .s .size)) ≡ false =
-    ap₂ (triangleTooLarge (a .t)) (sym (c .before .before .before .width .ensures)) (sym (c .before .before .height .ensures))
+    let v : verticesInRange (a .t .vertices) ≡ true = sym (c .before .before .before .before .before .vertices-in-range .ensures) ∙ not-false _ (c .before .before .before .before .if2 .left) in
+    let w : triangleTooLarge (a .t .vertices) (width (a .s .size)) (height (a .s .size)) ≡ false =
+    ap₂ (triangleTooLarge (a .t .vertices)) (sym (c .before .before .before .width .ensures)) (sym (c .before .before .height .ensures))
     ∙ sym (c .before .triangle-too-large .ensures)
     ∙ c .if3 .left in
     sym (z ∙ ap₂ (λ (p q : Bool). choose (not p) 6 (choose q 7 0)) v w)

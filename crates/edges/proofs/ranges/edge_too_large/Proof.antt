@@ -1,11 +1,11 @@
 -- No corner is too large and no pixel is: both by the bound on an edge value.
 use mathlib.Core.Path.{sym, _∙_}
 use native.Mathlib.Omega.{arith}
-use Rattle.cover.specs.Side.{edgeFrom}
-use Rattle.cover.proofs.Large.{edge-never-too-large, pixel-answer, neither}
+use Rattle.edges.specs.Edges.{edgeFrom}
+use Rattle.edges.proofs.Large.{edge-never-too-large, pixel-answer, neither}
 use borrow.Author.Needs.{needs}
-use Rattle.cover.proofs.bounds.edge_too_large.Statement.{statement}
-use Rattle.cover.proofs.bounds.edge_too_large.Tie as tie
+use Rattle.edges.proofs.ranges.edge_too_large.Statement.{statement}
+use Rattle.edges.proofs.ranges.edge_too_large.Tie as tie
 
 sub-right : tie.Need-sub-right
 sub-right c = search needs

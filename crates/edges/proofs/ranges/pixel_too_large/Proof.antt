@@ -6,12 +6,12 @@ use lib.Signed.{ltZ}
 use Rattle.ints.proofs.Machine.{reads-as}
 use Rattle.rules.specs.Triangles.{Edge, sample, edgeValue}
 use Rattle.rules.specs.Numbers.{edgeTooLarge}
-use Rattle.cover.specs.Side.{edgeFrom}
-use Rattle.cover.proofs.Along.{edge-within, read-in-range}
-use Rattle.cover.proofs.Codes.{answeredC, answered}
-use Rattle.cover.proofs.Large.{out-of-range}
-use Rattle.cover.proofs.bounds.pixel_too_large.Statement.{statement}
-use Rattle.cover.proofs.bounds.pixel_too_large.Tie as tie
+use Rattle.edges.specs.Edges.{edgeFrom}
+use Rattle.edges.proofs.Within.{edge-within, read-in-range}
+use Rattle.edges.proofs.Codes.{answeredC, answered}
+use Rattle.edges.proofs.Large.{out-of-range}
+use Rattle.edges.proofs.ranges.pixel_too_large.Statement.{statement}
+use Rattle.edges.proofs.ranges.pixel_too_large.Tie as tie
 
 abbrev edge : tie.Start → Edge
 edge c = edgeFrom (c .args .x1) (c .args .y1) (c .args .x2) (c .args .y2)

@@ -1,13 +1,13 @@
 // Numbers 6 and 7: vertices and edge values in range.
-use crate::setup::edge_value;
-use rules::Triangle;
+use crate::values::edge_value;
+use rules::Vertices;
 ghost use mathlib.Core.Path.{_≡_};
 ghost use mathlib.Core.Bool.{true, _&&_};
 ghost use Prim.Native.Nat.{_≤_};
 ghost use lib.Dec.{ltb};
 ghost use Rattle.rules.specs.Folds.{pixels};
 ghost use Rattle.rules.specs.Numbers.{vertexInRange, verticesInRange, edgeTooLarge, triangleTooLarge};
-ghost use Rattle.cover.specs.Side.{edgeFrom, edgeInRange};
+ghost use Rattle.edges.specs.Edges.{edgeFrom, edgeInRange};
 
 // Whether a vertex number is in -8192..8191.
 fn vertex_in_range(v: i32) -> bool
@@ -24,10 +24,10 @@ fn point_in_range(x: i32, y: i32) -> bool
 }
 
 // Number 6: whether all six vertex numbers are in range.
-pub fn vertices_in_range(t: Triangle) -> bool
-    ensures { λ r. ⌜ r ≡ verticesInRange t ⌝ }
+pub fn vertices_in_range(v: Vertices) -> bool
+    ensures { λ r. ⌜ r ≡ verticesInRange v ⌝ }
 {
-    point_in_range(t.x1, t.y1) & point_in_range(t.x2, t.y2) & point_in_range(t.x3, t.y3)
+    point_in_range(v.x1, v.y1) & point_in_range(v.x2, v.y2) & point_in_range(v.x3, v.y3)
 }
 
 // Whether the edge value at pixel (x, y) leaves signed 32 bits.
@@ -53,11 +53,11 @@ fn edge_too_large(x1: i32, y1: i32, x2: i32, y2: i32, w: u32, h: u32) -> bool
 }
 
 // Number 7: whether an edge value leaves signed 32 bits at some pixel of w columns and h rows.
-pub fn triangle_too_large(t: Triangle, w: u32, h: u32) -> bool
-    requires { ⌜ (verticesInRange t ≡ true) × (1 ≤ w) × (w ≤ 640) × (1 ≤ h) × (h ≤ 512) ⌝ }
-    ensures { λ r. ⌜ r ≡ triangleTooLarge t w h ⌝ }
+pub fn triangle_too_large(v: Vertices, w: u32, h: u32) -> bool
+    requires { ⌜ (verticesInRange v ≡ true) × (1 ≤ w) × (w ≤ 640) × (1 ≤ h) × (h ≤ 512) ⌝ }
+    ensures { λ r. ⌜ r ≡ triangleTooLarge v w h ⌝ }
 {
-    edge_too_large(t.x1, t.y1, t.x2, t.y2, w, h)
-        | edge_too_large(t.x2, t.y2, t.x3, t.y3, w, h)
-        | edge_too_large(t.x3, t.y3, t.x1, t.y1, w, h)
+    edge_too_large(v.x1, v.y1, v.x2, v.y2, w, h)
+        | edge_too_large(v.x2, v.y2, v.x3, v.y3, w, h)
+        | edge_too_large(v.x3, v.y3, v.x1, v.y1, w, h)
 }

@@ -8,14 +8,14 @@ use lib.IntN.{ℤ, pos, negsuc}
 use lib.Signed.{ltZ}
 use borrow.Author.Tests.{le-leb}
 use Rattle.ints.proofs.Bounds.{Within}
-use Rattle.rules.specs.declared.Triangle.{Triangle}
+use Rattle.rules.specs.declared.Vertices.{Vertices}
 use Rattle.rules.specs.Folds.{pixels}
 use Rattle.rules.specs.Triangles.{Edge, edge1, edge2, edge3, edgeValue, sample}
 use Rattle.rules.specs.Numbers.{inSigned32, verticesInRange, edgeTooLarge, triangleTooLarge}
 use Rattle.rules.proofs.Choices.{not-leb}
 use Rattle.rules.proofs.Folds.{pixels-none}
-use Rattle.cover.specs.Side.{edgeInRange}
-use Rattle.cover.proofs.Along.{edge-within, value-within, edges-in-range, read, read-in-range}
+use Rattle.edges.specs.Edges.{edgeInRange}
+use Rattle.edges.proofs.Within.{edge-within, value-within, edges-in-range, read, read-in-range}
 
 -- the range as two tests
 
@@ -45,7 +45,7 @@ module _ (e : Edge) (r : edgeInRange e ≡ true) where
 pub neither : {a b : Bool} → a ≡ false → b ≡ false → a || b ≡ false
 neither h k = rw (h, k)
 
-pub triangle-never-too-large : (t : Triangle) → verticesInRange t ≡ true → (w h : ℕ) → w ≤ 640 → h ≤ 512 → triangleTooLarge t w h ≡ false
+pub triangle-never-too-large : (t : Vertices) → verticesInRange t ≡ true → (w h : ℕ) → w ≤ 640 → h ≤ 512 → triangleTooLarge t w h ≡ false
 unfolding triangleTooLarge
 triangle-never-too-large t r w h hw hh =
     let (r1, r2, r3) = edges-in-range t r in

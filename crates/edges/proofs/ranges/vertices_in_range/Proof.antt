@@ -8,10 +8,10 @@ use lib.Signed.{mag}
 use mir.Syntax.{w32}
 use mir.Val.{toZ, ofZ}
 use mir.ValLaws.{toZ-ofZ}
-use Rattle.rules.specs.declared.Triangle.{Triangle}
+use Rattle.rules.specs.declared.Vertices.{Vertices}
 use Rattle.rules.specs.Numbers.{vertexInRange, verticesInRange}
-use Rattle.cover.proofs.bounds.vertices_in_range.Statement.{statement}
-use Rattle.cover.proofs.bounds.vertices_in_range.Tie as tie
+use Rattle.edges.proofs.ranges.vertices_in_range.Statement.{statement}
+use Rattle.edges.proofs.ranges.vertices_in_range.Tie as tie
 
 and-assoc : (a b c : Bool) → a && (b && c) ≡ a && b && c
 and-assoc true b c = refl
@@ -20,7 +20,7 @@ and-assoc false b c = refl
 abbrev point : ℤ → ℤ → Bool
 point x y = vertexInRange x && vertexInRange y
 
-points : (t : Triangle) → point (t .x1) (t .y1) && point (t .x2) (t .y2) && point (t .x3) (t .y3) ≡ verticesInRange t
+points : (t : Vertices) → point (t .x1) (t .y1) && point (t .x2) (t .y2) && point (t .x3) (t .y3) ≡ verticesInRange t
 unfolding verticesInRange
 points t = simp and-assoc
 
@@ -39,7 +39,7 @@ point-in-range-requires-3 c κs = tt
 
 returns : tie.Need-returns
 returns c =
-    let t = c .before .before .before .before .before .before .before .before .before .args .t in
+    let t = c .before .before .before .before .before .before .before .before .before .args .v in
     ap₂ _&&_
     (ap₂ _&&_
     (c .before .before .before .before .before .before .point-in-range .ensures ∙ read (t .x1) (t .y1) (omega arith) (omega arith))

@@ -3,13 +3,13 @@ use mathlib.Core.Path.{_≡_, refl, _∙_}
 use mir.Syntax.{w64}
 use Rattle.ints.proofs.Machine.{got-nat, Code, known, _⊞_, _⊠_, meant, need, reads-as}
 use Rattle.rules.specs.Triangles.{Edge, sample, edgeValue}
-use Rattle.cover.specs.Side.{edgeFrom}
-use Rattle.cover.proofs.Along.{EdgeWithin, edge-within}
-use Rattle.cover.proofs.Codes as code
-use Rattle.cover.proofs.Codes.{offsetC, eightC}
+use Rattle.edges.specs.Edges.{edgeFrom}
+use Rattle.edges.proofs.Within.{EdgeWithin, edge-within}
+use Rattle.edges.proofs.Codes as code
+use Rattle.edges.proofs.Codes.{offsetC, eightC}
 use borrow.Author.Needs.{needs}
-use Rattle.cover.proofs.setup.edge_value.Statement.{statement}
-use Rattle.cover.proofs.setup.edge_value.Tie as tie
+use Rattle.edges.proofs.values.edge_value.Statement.{statement}
+use Rattle.edges.proofs.values.edge_value.Tie as tie
 
 abbrev edge : tie.Start → Edge
 edge c = edgeFrom (c .args .x1) (c .args .y1) (c .args .x2) (c .args .y2)

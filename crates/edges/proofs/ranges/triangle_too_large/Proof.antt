@@ -1,30 +1,30 @@
 -- No edge is too large and the triangle is not: both by the bound on an edge value.
 use mathlib.Core.Path.{sym, _∙_}
 use Rattle.rules.specs.Triangles.{edge1, edge2, edge3}
-use Rattle.cover.proofs.Along.{edges-in-range, read-in-range}
-use Rattle.cover.proofs.Large.{triangle-never-too-large, edge-answer, neither}
-use Rattle.cover.proofs.bounds.triangle_too_large.Statement.{statement}
-use Rattle.cover.proofs.bounds.triangle_too_large.Tie as tie
+use Rattle.edges.proofs.Within.{edges-in-range, read-in-range}
+use Rattle.edges.proofs.Large.{triangle-never-too-large, edge-answer, neither}
+use Rattle.edges.proofs.ranges.triangle_too_large.Statement.{statement}
+use Rattle.edges.proofs.ranges.triangle_too_large.Tie as tie
 
 edge-too-large-requires : tie.Need-edge-too-large-requires
 edge-too-large-requires c κs =
     let s = c .before .before .before .before in
-    (read-in-range (edge1 (s .args .t)) (edges-in-range (s .args .t) (s .pre .0) .0), s .pre .1, s .pre .2, s .pre .3, s .pre .4)
+    (read-in-range (edge1 (s .args .v)) (edges-in-range (s .args .v) (s .pre .0) .0), s .pre .1, s .pre .2, s .pre .3, s .pre .4)
 
 edge-too-large-requires-2 : tie.Need-edge-too-large-requires-2
 edge-too-large-requires-2 c κs =
     let s = c .before .before .before .before .before .before .before .before .before in
-    (read-in-range (edge2 (s .args .t)) (edges-in-range (s .args .t) (s .pre .0) .1), s .pre .1, s .pre .2, s .pre .3, s .pre .4)
+    (read-in-range (edge2 (s .args .v)) (edges-in-range (s .args .v) (s .pre .0) .1), s .pre .1, s .pre .2, s .pre .3, s .pre .4)
 
 edge-too-large-requires-3 : tie.Need-edge-too-large-requires-3
 edge-too-large-requires-3 c κs =
     let s = c .before .before .before .before .before .before .before .before .before .before .before .before .before .before in
-    (read-in-range (edge3 (s .args .t)) (edges-in-range (s .args .t) (s .pre .0) .2), s .pre .1, s .pre .2, s .pre .3, s .pre .4)
+    (read-in-range (edge3 (s .args .v)) (edges-in-range (s .args .v) (s .pre .0) .2), s .pre .1, s .pre .2, s .pre .3, s .pre .4)
 
 returns : tie.Need-returns
 returns c =
     let s = c .before .before .before .before .before .before .before .before .before .before .before .before .before .before .before in
-    let t = s .args .t in
+    let t = s .args .v in
     let (r1, r2, r3) = edges-in-range t (s .pre .0) in
     neither
     (neither

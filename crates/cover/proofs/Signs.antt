@@ -1,70 +1,58 @@
--- An edge's differences and its value, tests of them against 0 and what `in_ticks` reads, as the machine computes them in 64 bits.
-use Prim.Native.Nat.{ℕ, _≤_, _<_}
-use mathlib.Core.Path.{_≡_, sym, _∙_, ap, ap₂, subst}
+-- Signs of numbers: as the machine's tests against 0 read them, that a number has one, and what `in_ticks` makes of a number and of dy.
+use Prim.Native.Nat.{ℕ, zero, suc, _<_}
+use mathlib.Core.Path.{_≡_, refl, sym, _∙_, ap, ap₂, subst}
 use mathlib.Core.Bool.{Bool, true, false}
 use native.Mathlib.Omega.{arith}
 use lib.Dec.{T}
-use lib.IntN.{ℤ, pos, _*ℤ_}
-use lib.Signed.{ltZ}
-use mir.Syntax.{w32, w64}
+use lib.IntN.{ℤ, pos, negsuc, _*ℤ_}
+use lib.Signed.{ltZ, _<ℤ_}
+use mir.Syntax.{w64}
 use mir.Val.{SFits, toZ, ofZ}
 use mir.ValLaws.{toZ-ofZ}
+use borrow.Author.Tests.{lt-ltb, le-ltb}
+use Rattle.ints.proofs.Order.{ltZ-true}
 use Rattle.ints.proofs.Bounds.{Within, fits-64}
-use Rattle.ints.proofs.Machine.{got-in, got-lit, Code, known, cast, _⊟_, _⊠_, word-of, meant, fine, reads-as}
-use Rattle.rules.specs.Triangles.{Point, Edge, sampleOffset, sample, edgeValue, positive, isZero, negative}
-use Rattle.cover.specs.Side.{edgeInRange, scaleOf}
-use Rattle.cover.proofs.Along.{EdgeWithin, value-within, read, read-edge, above, below, positive-only, negative-only, neither}
+use Rattle.ints.proofs.Machine.{got-lit, Code, known, _⊟_, word-of, meant, fine, reads-as}
+use Rattle.rules.specs.Triangles.{positive, isZero, negative}
+use Rattle.cover.specs.Side.{scaleOf}
 
 abbrev pub zeroC : Code w64
 zeroC = known (got-lit w64 0 tt)
-
-abbrev pub offsetC : Code w64
-offsetC = known (got-lit w64 sampleOffset tt)
 
 -- -1 - z
 abbrev pub opposedC : Code w64 → Code w64
 opposedC z = known (got-lit w64 18446744073709551615 tt) ⊟ z
 
-abbrev pub eightC : Code w64
-eightC = known (got-lit w64 8 tt)
+-- signs as the tests read them
 
-module _ (e : Edge) (w : EdgeWithin e) where
-  abbrev pub x1C : Code w64
-  x1C = cast w64 (known (got-in {w = w32} (w .in-x1) tt))
+pub above : (z : ℤ) → ltZ (pos 0) z ≡ positive z
+above (pos zero) = refl
+above (pos (suc n)) = lt-ltb 0 (suc n) (omega arith)
+above (negsuc n) = refl
 
-  abbrev pub y1C : Code w64
-  y1C = cast w64 (known (got-in {w = w32} (w .in-y1) tt))
+pub below : (z : ℤ) → ltZ z (pos 0) ≡ negative z
+below (pos n) = le-ltb n 0 (omega arith)
+below (negsuc n) = refl
 
-  abbrev pub x2C : Code w64
-  x2C = cast w64 (known (got-in {w = w32} (w .in-x2) tt))
+pub positive-true : (z : ℤ) → positive z ≡ true → pos 0 <ℤ z
+positive-true z h = ltZ-true (pos 0) z (above z ∙ h)
 
-  abbrev pub y2C : Code w64
-  y2C = cast w64 (known (got-in {w = w32} (w .in-y2) tt))
+-- a number has one sign
 
-  abbrev pub dxC : Code w64
-  dxC = x2C ⊟ x1C
+pub positive-only : (z : ℤ) → positive z ≡ true → (negative z ≡ false) × (isZero z ≡ false)
+positive-only (pos zero) h = (refl, sym h)
+positive-only (pos (suc n)) h = (refl, refl)
+positive-only (negsuc n) h = (sym h, refl)
 
-  abbrev pub dyC : Code w64
-  dyC = y2C ⊟ y1C
+pub negative-only : (z : ℤ) → negative z ≡ true → (positive z ≡ false) × (isZero z ≡ false)
+negative-only (pos zero) h = (refl, sym h)
+negative-only (pos (suc n)) h = (sym h, refl)
+negative-only (negsuc n) h = (refl, refl)
 
-  -- at the sample point (px, py)
-  module _ (px py : Code w64) where
-    abbrev pub leftC : Code w64
-    leftC = px ⊟ x1C
-
-    abbrev pub upC : Code w64
-    upC = py ⊟ y1C
-
-    abbrev pub valueC : Code w64
-    valueC = upC ⊠ dxC ⊟ leftC ⊠ dyC
-
--- an edge's value as `edge_value` answers it
-abbrev pub answeredC : (e : Edge) → EdgeWithin e → (x y : ℕ) → x ≤ 640 → y ≤ 512 → (z : ℤ) → z ≡ edgeValue e (sample x y) → Code w64
-answeredC e w x y hx hy z h = known (got-in {b = 419659776} (subst (Within 419659776) (sym h) (value-within e w x y (omega arith) hy)) tt)
-
--- of the edge that it reads
-pub answered : (e : Edge) (p : Point) {z : ℤ} → edgeInRange e ≡ true → z ≡ edgeValue (read e) p → z ≡ edgeValue e p
-answered e p r h = h ∙ ap (λ (k : Edge). edgeValue k p) (read-edge e r)
+pub neither : (z : ℤ) → positive z ≡ false → negative z ≡ false → isZero z ≡ true
+neither (pos zero) h k = refl
+neither (pos (suc n)) h k = sym h
+neither (negsuc n) h k = sym k
 
 -- one test of a machine number against 0, each way
 pub read-above : (z : ℤ) {b : Bool} → SFits w64 z → ltZ (pos 0) (toZ w64 (ofZ w64 z)) ≡ b → positive z ≡ b

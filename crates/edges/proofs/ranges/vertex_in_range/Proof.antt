@@ -4,8 +4,8 @@ use lib.IntN.{ℤ, pos, negsuc}
 use lib.Signed.{leZ}
 use mir.Syntax.{w32}
 use mir.ValLaws.{toZ-ofZ}
-use Rattle.cover.proofs.bounds.vertex_in_range.Statement.{statement}
-use Rattle.cover.proofs.bounds.vertex_in_range.Tie as tie
+use Rattle.edges.proofs.ranges.vertex_in_range.Statement.{statement}
+use Rattle.edges.proofs.ranges.vertex_in_range.Tie as tie
 
 returns : tie.Need-returns
 returns c =

@@ -4,8 +4,8 @@ use mathlib.Core.Bool.{_&&_}
 use mir.Syntax.{w32}
 use mir.ValLaws.{toZ-ofZ}
 use Rattle.rules.specs.Numbers.{vertexInRange}
-use Rattle.cover.proofs.bounds.point_in_range.Statement.{statement}
-use Rattle.cover.proofs.bounds.point_in_range.Tie as tie
+use Rattle.edges.proofs.ranges.point_in_range.Statement.{statement}
+use Rattle.edges.proofs.ranges.point_in_range.Tie as tie
 
 vertex-in-range-requires : tie.Need-vertex-in-range-requires
 vertex-in-range-requires c κs = tt

@@ -1,0 +1,2 @@
+-- An edge from its four numbers, and which are in range.
+pub mod Edges

@@ -1,0 +1,3 @@
+// Vertices in range, and edge values at pixels.
+pub mod ranges;
+pub mod values;
