@@ -9,46 +9,39 @@ use native.Mathlib.Omega.{arith}
 use Rattle.rules.specs.declared.Screen.{Screen}
 use Rattle.rules.specs.declared.Triangle.{Triangle}
 use Rattle.rules.specs.Folds.{choose}
-use Rattle.rules.specs.Sizes.{width, height, sound}
-use Rattle.rules.specs.Numbers.{tooLong, screenNumber, triangleNumber, verticesInRange, triangleTooLarge}
+use Rattle.rules.specs.Sizes.{width, height}
+use Rattle.rules.specs.Numbers.{screenNumber, triangleNumber, verticesInRange, triangleTooLarge}
 use Rattle.rules.specs.Triangles.{coveredPixels, writtenPixels, drawn}
 use Rattle.rules.specs.Calls.{Draws}
 use Rattle.rules.proofs.Choices.{accepted-no, accepted-yes}
+use Rattle.rules.proofs.Refusals.{ScreenPasses, screen-passed, screen-refuses, others-follow, screen-number-passed}
 use Rattle.draw.specs.declared.Counts.{Counts}
 use Rattle.draw.specs.Rows.{FrameAsked, FrameDone}
 
-first-two : (a b : Bool) (r : ℕ) → _≢_ {A = ℕ} (choose a 3 (choose b 5 0)) 0 → _≡_ {A = ℕ} (choose a 3 (choose b 5 r)) (choose a 3 (choose b 5 0))
-first-two true b r h = refl
-first-two false true r h = refl
-first-two false false r h = absurd (h refl)
-
-neither : (a b : Bool) (r : ℕ) → _≡_ {A = ℕ} (choose a 3 (choose b 5 0)) 0 → choose a 3 (choose b 5 r) ≡ r
-neither true b r h = absurd (omega arith)
-neither false true r h = absurd (omega arith)
-neither false false r h = refl
-
 module _ (n : ℕ) (s : Screen) (t : Triangle) where
-  pub screen-first : screenNumber n s ≢ 0 → screenNumber n s ≡ triangleNumber n s t
-  unfolding screenNumber triangleNumber
-  screen-first h = sym (first-two (tooLong n) (not (sound n s)) _ h)
+  abbrev pub others : ℕ
+  others = choose (not (verticesInRange (t .vertices))) 6 (choose (triangleTooLarge (t .vertices) (width (s .size)) (height (s .size))) 7 0)
 
-  pub then-triangle : screenNumber n s ≡ 0
-      → triangleNumber n s t
-      ≡ choose (not (verticesInRange (t .vertices))) 6 (choose (triangleTooLarge (t .vertices) (width (s .size)) (height (s .size))) 7 0)
-  unfolding screenNumber triangleNumber
-  then-triangle h = neither (tooLong n) (not (sound n s)) _ h
+  pub screen-first : screenNumber n s ≢ 0 → screenNumber n s ≡ triangleNumber n s t
+  unfolding triangleNumber
+  screen-first h = screen-refuses n s others h
+
+  pub then-triangle : screenNumber n s ≡ 0 → triangleNumber n s t ≡ others
+  unfolding triangleNumber
+  then-triangle h = others-follow n s others (screen-number-passed h)
 
   pub drawn-asks : triangleNumber n s t ≡ 0 → FrameAsked n s t
   unfolding triangleNumber
-  drawn-asks h = go (tooLong n) (sound n s) (verticesInRange (t .vertices)) refl refl h
+  drawn-asks h = go (verticesInRange (t .vertices)) refl (passed .1)
     where
-      go : (a b c : Bool) → sound n s ≡ b → verticesInRange (t .vertices) ≡ c
-          → _≡_ {A = ℕ} (choose a 3 (choose (not b) 5 (choose (not c) 6 (choose (triangleTooLarge (t .vertices) (width (s .size)) (height (s .size))) 7 0)))) 0
+      passed : ScreenPasses n s × (others ≡ 0)
+      passed = screen-passed n s others h
+
+      go : (b : Bool) → verticesInRange (t .vertices) ≡ b
+          → _≡_ {A = ℕ} (choose (not b) 6 (choose (triangleTooLarge (t .vertices) (width (s .size)) (height (s .size))) 7 0)) 0
           → FrameAsked n s t
-      go true b c p q e = absurd (omega arith)
-      go false false c p q e = absurd (omega arith)
-      go false true false p q e = absurd (omega arith)
-      go false true true p q e = record { is-sound = p; in-range = q }
+      go false q e = absurd (omega arith)
+      go true q e = record { is-sound = passed .0 .is-sound; in-range = q }
 
 module _ (m : List ℕ) (s : Screen) (t : Triangle) where
   abbrev N : ℕ

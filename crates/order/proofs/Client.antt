@@ -1,11 +1,10 @@
 -- From the calls' contracts alone: what every pixel holds after a call, and that a sound screen stays sound, so that a client chains calls
 -- of any number. The last theorem is such a chain, a clear and a triangle.
 use Prim.Native.Nat.{ℕ, _<_}
-use mathlib.Core.Path.{_≡_, refl, sym, _∙_, ap, subst}
+use mathlib.Core.Path.{_≡_, sym, _∙_, ap, subst}
 use mathlib.Core.Logic.{_≢_}
-use mathlib.Core.Bool.{Bool, true, false, not}
+use mathlib.Core.Bool.{true}
 use mathlib.Core.List.{List}
-use native.Mathlib.Omega.{arith}
 use lib.ListN.{length}
 use Rattle.rules.specs.declared.Screen.{Screen}
 use Rattle.rules.specs.declared.Triangle.{Triangle}
@@ -14,21 +13,13 @@ use Rattle.rules.specs.Folds.{choose}
 use Rattle.ram.specs.Ram.{loadHalf}
 use Rattle.rules.specs.Sizes.{width, height, colourAt, sound}
 use Rattle.rules.specs.Triangles.{written, triangleColour, triangleDepth, drawn}
-use Rattle.rules.specs.Numbers.{tooLong, screenNumber, triangleNumber}
+use Rattle.rules.specs.Numbers.{screenNumber, triangleNumber}
 use Rattle.rules.specs.Calls.{Clears, Draws, accepted, cleared}
 use Rattle.rules.proofs.Choices.{accepted-no}
+use Rattle.rules.proofs.Refusals.{screen-number-passed}
 use Rattle.order.specs.Pointwise.{Painted}
 use Rattle.order.proofs.Order.{accepted-sound, accepted-drawn}
 use Rattle.order.proofs.Pointwise.{drawn-pointwise, cleared-pointwise, painted-colour}
-
-clear-sound : (n : ℕ) (s : Screen) → screenNumber n s ≡ 0 → sound n s ≡ true
-unfolding screenNumber
-clear-sound n s e = go (tooLong n) (sound n s) e
-  where
-    go : (a b : Bool) → _≡_ {A = ℕ} (choose a 3 (choose (not b) 5 0)) 0 → b ≡ true
-    go true b h = absurd (omega arith)
-    go false true h = refl
-    go false false h = absurd (omega arith)
 
 module _ {m after : List ℕ} {s : Screen} {t : Triangle} {r : Drawn} (d : Draws m s t r after) where
   pub draw-refused : r .number ≢ 0 → after ≡ m
@@ -54,12 +45,12 @@ module _ {m after : List ℕ} {s : Screen} {colour depth n : ℕ} (d : Clears m 
       let z : screenNumber (length m) s ≡ 0 = sym (d .answers) ∙ e in
       subst (Painted s (λ x y. true) (λ x y. colour) (λ x y. depth) m)
       (sym (d .leaves ∙ ap (λ k. accepted k (cleared s colour depth m) m) z))
-      (cleared-pointwise s m (clear-sound (length m) s z) colour depth)
+      (cleared-pointwise s m (screen-number-passed z .is-sound) colour depth)
 
   pub clear-keeps-sound : n ≡ 0 → sound (length after) s ≡ true
   clear-keeps-sound e =
       subst (λ (k : ℕ). sound k s ≡ true) (sym (clear-paints e .same-length))
-      (clear-sound (length m) s (sym (d .answers) ∙ e))
+      (screen-number-passed (sym (d .answers) ∙ e) .is-sound)
 
 -- a clear, then a triangle: a pixel's colour is the triangle's where it is written, else the clear's
 pub clear-then-draw : {m k l : List ℕ} {s : Screen} {colour depth n : ℕ} {t : Triangle} {r : Drawn}

@@ -3,7 +3,7 @@
 use Prim.Native.Nat.{ℕ, _≤_, _<_}
 use mathlib.Core.Path.{_≡_, refl, sym, _∙_, ap}
 use mathlib.Core.Logic.{_≢_, _⊎_, inl, inr, _↔_}
-use mathlib.Core.Bool.{Bool, true, false, not}
+use mathlib.Core.Bool.{Bool, true, false}
 use mathlib.Core.List.{List}
 use native.Mathlib.Omega.{arith}
 use native.Mathlib.Decide.{decLe, decLt}
@@ -17,11 +17,12 @@ use Rattle.rules.specs.Folds.{choose}
 use Rattle.ram.specs.Ram.{loadHalf}
 use Rattle.rules.specs.Sizes.{sound}
 use Rattle.rules.specs.Triangles.{covered, triangleColour, triangleDepth, drawn}
-use Rattle.rules.specs.Numbers.{tooLong, triangleNumber}
+use Rattle.rules.specs.Numbers.{triangleNumber}
 use Rattle.rules.specs.Calls.{accepted, Draws}
 use Rattle.ram.proofs.Halves.{joined, joined-split, split-inj}
 use Rattle.rules.proofs.Pixels.{On, Outside, Sound, sound-facts, Cell, cell, painted}
 use Rattle.rules.proofs.Memory.{same-memory, on-rows}
+use Rattle.rules.proofs.Refusals.{screen-passed}
 use Rattle.rules.proofs.Drawing.{covered-on, merged, length-drawn, touched-drawn}
 use Rattle.order.specs.Order.{SameInBothOrders, Compatible}
 
@@ -179,12 +180,7 @@ module _ (s : Screen) (m : List ℕ) (h : sound (length m) s ≡ true) where
 
 pub accepted-sound : (n : ℕ) (s : Screen) (t : Triangle) → triangleNumber n s t ≡ 0 → sound n s ≡ true
 unfolding triangleNumber
-accepted-sound n s t e = go (tooLong n) (sound n s) _ e
-  where
-    go : (b c : Bool) (r : ℕ) → choose b 3 (choose (not c) 5 r) ≡ 0 → c ≡ true
-    go b true r e = refl
-    go true false r e = absurd (omega arith)
-    go false false r e = absurd (omega arith)
+accepted-sound n s t e = screen-passed n s _ e .0 .is-sound
 
 module _ {s : Screen} where
   pub accepted-drawn : {m after : List ℕ} {t : Triangle} {r : Drawn}

@@ -1,6 +1,7 @@
 pub mod Choices
 pub mod Folds
 pub mod Strips
+pub mod Refusals
 pub mod Rows
 pub mod Pixels
 pub mod Memory

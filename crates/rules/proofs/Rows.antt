@@ -7,8 +7,9 @@ use lib.Dec.{ltb}
 use borrow.Author.Tests.{ltb-true}
 use Rattle.rules.specs.declared.Screen.{Screen}
 use Rattle.rules.specs.Folds.{choose}
-use Rattle.rules.specs.Sizes.{width, height, sound, colourAt}
-use Rattle.rules.specs.Numbers.{tooLong, rowNumber}
+use Rattle.rules.specs.Sizes.{width, height, colourAt}
+use Rattle.rules.specs.Numbers.{rowNumber}
+use Rattle.rules.proofs.Refusals.{ScreenPasses, screen-passed}
 use Rattle.rules.proofs.Strips.{sound-facts, colour-in-row, row-fits}
 
 pub record RowLies (n : ℕ) (s : Screen) (row : ℕ) : Type 0 where
@@ -17,17 +18,14 @@ pub record RowLies (n : ℕ) (s : Screen) (row : ℕ) : Type 0 where
 
 pub accepted-row : (n : ℕ) (s : Screen) (row : ℕ) → rowNumber n s row ≡ 0 → RowLies n s row
 unfolding rowNumber
-accepted-row n s row e = go (tooLong n) (sound n s) (ltb row (height (s .size))) refl refl e
+accepted-row n s row e = go (ltb row (height (s .size))) refl (passed .1)
   where
-    go : (b c d : Bool)
-        → sound n s ≡ c
-        → ltb row (height (s .size)) ≡ d
-        → _≡_ {A = ℕ} (choose b 3 (choose (not c) 5 (choose (not d) 8 0))) 0
-        → RowLies n s row
-    go true c d p q e = absurd (omega arith)
-    go false false d p q e = absurd (omega arith)
-    go false true false p q e = absurd (omega arith)
-    go false true true p q e = record {
+    passed : ScreenPasses n s × (_≡_ {A = ℕ} (choose (not (ltb row (height (s .size)))) 8 0) 0)
+    passed = screen-passed n s _ e
+
+    go : (b : Bool) → ltb row (height (s .size)) ≡ b → _≡_ {A = ℕ} (choose (not b) 8 0) 0 → RowLies n s row
+    go false q k = absurd (omega arith)
+    go true q k = record {
       follow = λ x. colour-in-row s x row;
-      fits = row-fits (sound-facts p) (ltb-true row (height (s .size)) q);
+      fits = row-fits (sound-facts (passed .0 .is-sound)) (ltb-true row (height (s .size)) q);
     }

@@ -39,21 +39,21 @@ unfoldable pub triangleTooLarge : Vertices → ℕ → ℕ → Bool
 triangleTooLarge v w h =
     ltb 0 (pixels (λ x y. edgeTooLarge (edge1 v) x y || edgeTooLarge (edge2 v) x y || edgeTooLarge (edge3 v) x y) w h)
 
+-- every call that draws or reads uses 3 and 5: "the lowest number that applies .. wins", so they go before its other numbers
+abbrev pub afterScreen : ℕ → Screen → ℕ → ℕ
+afterScreen ramLength s others = choose (tooLong ramLength) 3 (choose (not (sound ramLength s)) 5 others)
+
 -- "a clear 3 and 5"
 unfoldable pub screenNumber : ℕ → Screen → ℕ
-screenNumber ramLength s = choose (tooLong ramLength) 3 (choose (not (sound ramLength s)) 5 0)
+screenNumber ramLength s = afterScreen ramLength s 0
 
 -- "rows 3, 5, 8"; 8: "row not below the height"
 unfoldable pub rowNumber : ℕ → Screen → ℕ → ℕ
-rowNumber ramLength s row =
-    choose (tooLong ramLength) 3
-    (choose (not (sound ramLength s)) 5
-    (choose (not (ltb row (height (s .size)))) 8 0))
+rowNumber ramLength s row = afterScreen ramLength s (choose (not (ltb row (height (s .size)))) 8 0)
 
 -- "triangles 3, 5, 6, 7"
 unfoldable pub triangleNumber : ℕ → Screen → Triangle → ℕ
 triangleNumber ramLength s t =
-    choose (tooLong ramLength) 3
-    (choose (not (sound ramLength s)) 5
+    afterScreen ramLength s
     (choose (not (verticesInRange (t .vertices))) 6
-    (choose (triangleTooLarge (t .vertices) (width (s .size)) (height (s .size))) 7 0)))
+    (choose (triangleTooLarge (t .vertices) (width (s .size)) (height (s .size))) 7 0))

@@ -6,8 +6,8 @@ use borrow.Author.Tests.{not-true, not-false}
 use Rattle.rules.specs.Folds.{choose}
 use Rattle.rules.specs.Sizes.{width, height}
 use Rattle.rules.specs.Numbers.{verticesInRange, triangleTooLarge}
-use Rattle.rules.proofs.Pixels.{width-le, height-le}
-use Rattle.screen.proofs.Accepted.{accepted-clear}
+use Rattle.rules.proofs.Pixels.{sound-facts, width-le, height-le}
+use Rattle.rules.proofs.Refusals.{screen-number-passed}
 use Rattle.draw.proofs.Refused.{screen-first, then-triangle}
 use borrow.Author.Needs.{needs}
 use Rattle.draw.proofs.triangles.triangle_number.Statement.{statement}
@@ -39,7 +39,7 @@ height-requires c κs = search needs
 
 triangle-too-large-requires : tie.Need-triangle-too-large-requires
 triangle-too-large-requires c κs =
-    let k = accepted-clear _ _ (sym (c .before .before .before .before .before .screen-number .ensures) ∙ c .before .before .before .before .if1 .left) in (
+    let k = sound-facts (screen-number-passed (sym (c .before .before .before .before .before .screen-number .ensures) ∙ c .before .before .before .before .if1 .left) .is-sound) in (
       sym (c .before .before .before .vertices-in-range .ensures) ∙ not-false _ (c .before .before .if2 .left),
       omega (arith, c .before .width .ensures, k .groups-low),
       omega (arith, c .before .width .ensures, width-le k),

@@ -1,7 +1,7 @@
 -- `clear::clear`: a refusal leaves the memory as it was, and else the areas filled are the clear. Assumes nothing.
 use mathlib.Core.Path.{sym, _∙_}
 use borrow.Author.Needs.{needs}
-use Rattle.screen.proofs.Accepted.{clear-sound}
+use Rattle.rules.proofs.Refusals.{screen-number-passed}
 use Rattle.screen.proofs.Fills.{refused, done}
 use Rattle.screen.proofs.clear.clear.Statement.{statement}
 use Rattle.screen.proofs.clear.clear.Tie as tie
@@ -13,7 +13,7 @@ returns : tie.Need-returns
 returns c = refused _ _ _ _ _ (c .before .screen-number .ensures) (c .if1 .taken)
 
 fill-areas-requires : tie.Need-fill-areas-requires
-fill-areas-requires c κs = clear-sound _ _ (sym (c .before .before .screen-number .ensures) ∙ c .before .if1 .left)
+fill-areas-requires c κs = screen-number-passed (sym (c .before .before .screen-number .ensures) ∙ c .before .if1 .left) .is-sound
 
 same-length : tie.Need-same-length
 same-length c = search needs
