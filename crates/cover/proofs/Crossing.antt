@@ -21,7 +21,7 @@ use Rattle.cover.specs.declared.Side.{Side}
 use Rattle.cover.specs.declared.Sides.{Sides}
 use Rattle.cover.specs.declared.Crossings.{Crossings}
 use Rattle.cover.specs.Units.{unit, raise, lift, Rounded}
-use Rattle.cover.specs.Side.{sided, rising, acrossOf, times, scaleOf, downOf, SideOf, SidesOf, CrossingOf, CrossingsOf, Addable, CanGoBelow}
+use Rattle.cover.specs.Side.{sided, rising, across, times, scale, down, SideOf, SidesOf, CrossingOf, CrossingsOf, Addable, CanGoBelow}
 use Rattle.edges.proofs.Within.{EdgeWithin, edge-within, edges-in-range}
 use Rattle.cover.proofs.Along.{inside-sided, slope, sided-right, sided-down, sided-within, level-within}
 use Rattle.cover.proofs.Quotients.{rounded-crosses, rounded-sum, rounded-low, rounded-high}
@@ -70,7 +70,7 @@ module _ (e : Edge) (x y : ℕ) where
 
   -- an edge that is not level rises by its step across; a level one stays
   along : (d : ℤ) → dy e ≡ d → x < 640
-      → nonNeg (pos (times d) *ℤ choose (positive d) (negsuc 0 -ℤ sided e 0 y) (sided e 0 y) +ℤ pos (acrossOf d * x))
+      → nonNeg (pos (times d) *ℤ choose (positive d) (negsuc 0 -ℤ sided e 0 y) (sided e 0 y) +ℤ pos (across d * x))
       ≡ nonNeg (choose (positive d) (negsuc 0 -ℤ sided e x y) (sided e x y))
   along (pos zero) k h =
       scaled (sided e 0 y) x h
@@ -105,12 +105,12 @@ lower e y s false =
     (var 2 ⊗ (var 0 ⊕ con (pos 8) ⊗ var 1)) tt)
 
 -- the step across is 1 at least, and small
-pub across-least : (d : ℤ) → 1 ≤ acrossOf d
+pub across-least : (d : ℤ) → 1 ≤ across d
 across-least (pos zero) = omega arith
 across-least (pos (suc n)) = omega arith
 across-least (negsuc n) = omega arith
 
-across-most : (d : ℤ) → Within 16384 d → acrossOf d ≤ 131072
+across-most : (d : ℤ) → Within 16384 d → across d ≤ 131072
 across-most (pos zero) w = omega arith
 across-most (pos (suc n)) w = omega (arith, w .within)
 across-most (negsuc n) w = omega (arith, w .within)
@@ -119,10 +119,10 @@ across-most (negsuc n) w = omega (arith, w .within)
 
 module _ (e : Edge) (w : EdgeWithin e) (y : ℕ) (l : y ≤ 480) (m : ℕ) (h : CrossingOf e y m) where
   -- the roundings, times the step across, are less than a unit
-  less : acrossOf (dy e) * (y + 1) < unit
+  less : across (dy e) * (y + 1) < unit
   less =
       let n : y + 1 ≤ 481 = omega arith in
-      let p : acrossOf (dy e) * (y + 1) ≤ 131072 * 481 = mul-le-mul (across-most (dy e) (within-sub (w .in-y2) (w .in-y1))) n in
+      let p : across (dy e) * (y + 1) ≤ 131072 * 481 = mul-le-mul (across-most (dy e) (within-sub (w .in-y2) (w .in-y1))) n in
       omega arith
 
   rises-at : (x : ℕ) → x < 640 → nonNeg (rising e x y) ≡ leb raise (unit * x + m)
@@ -130,7 +130,7 @@ module _ (e : Edge) (w : EdgeWithin e) (y : ℕ) (l : y ≤ 480) (m : ℕ) (h : 
       sym (along e x y (dy e) refl k)
       ∙ rounded-crosses h (pos (times (dy e)) *ℤ rising e 0 y) units less (across-least (dy e)) x
     where
-      units : scaleOf (dy e) *ℤ rising e 0 y ≡ pos unit *ℤ (pos (times (dy e)) *ℤ rising e 0 y)
+      units : scale (dy e) *ℤ rising e 0 y ≡ pos unit *ℤ (pos (times (dy e)) *ℤ rising e 0 y)
       units =
           solve (pos (times (dy e)) ∷ rising e 0 y ∷ [])
           (con (pos unit) ⊗ var 0 ⊗ var 1)
@@ -152,7 +152,7 @@ module _ (e : Edge) (w : EdgeWithin e) (y : ℕ) (l : y ≤ 480) (m : ℕ) (h : 
 pub crossing-below : (e : Edge) (y : ℕ) (d : Side) (m : ℕ) → SideOf e d → CrossingOf e y m → Addable m (d .down)
     → CrossingOf e (y + 1) (m + d .down - lift)
 crossing-below e y d m o h k =
-    subst (λ (z : ℤ). Rounded z (acrossOf (dy e)) raise (y + 1 + 1) (m + d .down - lift)) (lower e y (scaleOf (dy e)) (positive (dy e)))
+    subst (λ (z : ℤ). Rounded z (across (dy e)) raise (y + 1 + 1) (m + d .down - lift)) (lower e y (scale (dy e)) (positive (dy e)))
     (rounded-sum h (o .is-down) (k .low))
 
 -- bounds
@@ -161,7 +161,7 @@ rising-either : {z : ℤ} {n : ℕ} (b : Bool) → Within n z → Within (1 + n)
 rising-either true w = within-sub (within-lit {n = 1} {z = negsuc 0} tt) w
 rising-either false w = within-le (omega arith) w
 
-pub scale-within : (d : ℤ) → Within 42949672960 (scaleOf d)
+pub scale-within : (d : ℤ) → Within 42949672960 (scale d)
 scale-within d = go (isZero d)
   where
     go : (b : Bool) → Within 42949672960 (pos (unit * choose b 640 1))
@@ -172,7 +172,7 @@ pub rising-within : (e : Edge) → EdgeWithin e → (y : ℕ) → y ≤ 512 → 
 rising-within e w y h = rising-either (positive (dy e)) (sided-within e w 0 y (omega arith) h)
 
 -- a level edge's value is half as large at most, and so its larger scale is no harm
-pub scaled-within : (e : Edge) → EdgeWithin e → (y : ℕ) → y ≤ 512 → Within 8700000000000000000 (scaleOf (dy e) *ℤ rising e 0 y)
+pub scaled-within : (e : Edge) → EdgeWithin e → (y : ℕ) → y ≤ 512 → Within 8700000000000000000 (scale (dy e) *ℤ rising e 0 y)
 scaled-within e w y h = go (isZero (dy e)) refl
   where
     go : (b : Bool) → isZero (dy e) ≡ b → Within 8700000000000000000 (pos (unit * choose b 640 1) *ℤ rising e 0 y)
@@ -183,7 +183,7 @@ scaled-within e w y h = go (isZero (dy e)) refl
         within-le (omega arith)
         (within-mul (within-pos {n = 67108864} (omega arith)) (rising-within e w y h))
 
-pub down-within : (x y : ℤ) → Within 16384 x → Within 131072 (downOf x y)
+pub down-within : (x y : ℤ) → Within 16384 x → Within 131072 (down x y)
 down-within x y w = go (positive y)
   where
     eight : Within 131072 (pos 8 *ℤ x)
@@ -193,10 +193,10 @@ down-within x y w = go (positive y)
     go true = within-sub (within-lit {n = 0} {z = pos 0} tt) eight
     go false = eight
 
-pub down-scaled-within : (x y : ℤ) → Within 16384 x → Within 5629499534213120 (scaleOf y *ℤ downOf x y)
+pub down-scaled-within : (x y : ℤ) → Within 16384 x → Within 5629499534213120 (scale y *ℤ down x y)
 down-scaled-within x y w = go (isZero y)
   where
-    go : (b : Bool) → Within 5629499534213120 (pos (unit * choose b 640 1) *ℤ downOf x y)
+    go : (b : Bool) → Within 5629499534213120 (pos (unit * choose b 640 1) *ℤ down x y)
     go true = within-mul (within-pos {n = 42949672960} (omega arith)) (down-within x y w)
     go false = within-le (omega arith) (within-mul (within-pos {n = 67108864} (omega arith)) (down-within x y w))
 

@@ -14,7 +14,7 @@ use Rattle.cover.specs.declared.Sides.{Sides}
 use Rattle.cover.specs.declared.Crossings.{Crossings}
 use Rattle.cover.specs.Units.{unit, raise}
 use Rattle.cover.specs.Side.{SideOf, SidesOf, CrossingOf, CrossingsOf}
-use Rattle.cover.specs.Spans.{begun, ended, columnOf, RowSpan}
+use Rattle.cover.specs.Spans.{begin, end, column, RowSpan}
 use Rattle.edges.proofs.Within.{EdgeWithin, edge-within, edges-in-range}
 use Rattle.cover.proofs.Crossing.{crossing-inside}
 use Rattle.cover.proofs.Columns.{span-beyond}
@@ -36,9 +36,9 @@ greater r a b h = go (ltb a r) refl
     go false e = refl
 
 module _ (x m : ℕ) where
-  begun-at : (e : Bool) (l : ℕ) → leb raise (x + begun m e l) ≡ (e || leb raise (x + m)) && leb raise (x + l)
-  begun-at true l = refl
-  begun-at false l = go (ltb m l) refl
+  begin-at : (e : Bool) (l : ℕ) → leb raise (x + begin m e l) ≡ (e || leb raise (x + m)) && leb raise (x + l)
+  begin-at true l = refl
+  begin-at false l = go (ltb m l) refl
     where
       go : (u : Bool) → ltb m l ≡ u → leb raise (x + choose u m l) ≡ leb raise (x + m) && leb raise (x + l)
       go true h = lesser raise (x + m) (x + l) (omega (arith, ltb-true m l h))
@@ -46,9 +46,9 @@ module _ (x m : ℕ) where
           lesser raise (x + l) (x + m) (omega (arith, ltb-false m l h))
           ∙ and-comm (leb raise (x + l)) (leb raise (x + m))
 
-  ended-at : (e : Bool) (g : ℕ) → ltb (x + ended m e g) raise ≡ (not e || ltb (x + m) raise) && ltb (x + g) raise
-  ended-at false g = refl
-  ended-at true g = go (ltb g m) refl
+  end-at : (e : Bool) (g : ℕ) → ltb (x + end m e g) raise ≡ (not e || ltb (x + m) raise) && ltb (x + g) raise
+  end-at false g = refl
+  end-at true g = go (ltb g m) refl
     where
       go : (u : Bool) → ltb g m ≡ u → ltb (x + choose u m g) raise ≡ ltb (x + m) raise && ltb (x + g) raise
       go true h = greater raise (x + m) (x + g) (omega (arith, ltb-true g m h))
@@ -56,17 +56,17 @@ module _ (x m : ℕ) where
           greater raise (x + g) (x + m) (omega (arith, ltb-false g m h))
           ∙ and-comm (ltb (x + g) raise) (ltb (x + m) raise)
 
-begun-le : (m : ℕ) (e : Bool) (l : ℕ) → begun m e l ≤ l
-begun-le m true l = omega arith
-begun-le m false l = go (ltb m l) refl
+begin-le : (m : ℕ) (e : Bool) (l : ℕ) → begin m e l ≤ l
+begin-le m true l = omega arith
+begin-le m false l = go (ltb m l) refl
   where
     go : (u : Bool) → ltb m l ≡ u → choose u m l ≤ l
     go true h = omega (arith, ltb-true m l h)
     go false h = omega arith
 
-ended-ge : (m : ℕ) (e : Bool) (g : ℕ) → g ≤ ended m e g
-ended-ge m false g = omega arith
-ended-ge m true g = go (ltb g m) refl
+end-ge : (m : ℕ) (e : Bool) (g : ℕ) → g ≤ end m e g
+end-ge m false g = omega arith
+end-ge m true g = go (ltb g m) refl
   where
     go : (u : Bool) → ltb g m ≡ u → g ≤ choose u m g
     go true h = omega (arith, ltb-true g m h)
@@ -75,22 +75,22 @@ ended-ge m true g = go (ltb g m) refl
 -- of the three edges
 
 abbrev pub leastOf : Crossings → Sides → ℕ
-leastOf m d = begun (m .p) (d .p .ends) (begun (m .q) (d .q .ends) (begun (m .r) (d .r .ends) raise))
+leastOf m d = begin (m .p) (d .p .ends) (begin (m .q) (d .q .ends) (begin (m .r) (d .r .ends) raise))
 
 abbrev pub mostOf : Crossings → Sides → ℕ → ℕ
-mostOf m d w = ended (m .p) (d .p .ends) (ended (m .q) (d .q .ends) (ended (m .r) (d .r .ends) (raise - unit * w)))
+mostOf m d w = end (m .p) (d .p .ends) (end (m .q) (d .q .ends) (end (m .r) (d .r .ends) (raise - unit * w)))
 
 pub least-le : (m : Crossings) (d : Sides) → leastOf m d ≤ raise
 least-le m d =
-    let c = begun (m .r) (d .r .ends) raise in
-    let b = begun (m .q) (d .q .ends) c in
-    omega (arith, begun-le (m .r) (d .r .ends) raise, begun-le (m .q) (d .q .ends) c, begun-le (m .p) (d .p .ends) b)
+    let c = begin (m .r) (d .r .ends) raise in
+    let b = begin (m .q) (d .q .ends) c in
+    omega (arith, begin-le (m .r) (d .r .ends) raise, begin-le (m .q) (d .q .ends) c, begin-le (m .p) (d .p .ends) b)
 
 pub most-ge : (m : Crossings) (d : Sides) (w : ℕ) → raise - unit * w ≤ mostOf m d w
 most-ge m d w =
-    let c = ended (m .r) (d .r .ends) (raise - unit * w) in
-    let b = ended (m .q) (d .q .ends) c in
-    omega (arith, ended-ge (m .r) (d .r .ends) (raise - unit * w), ended-ge (m .q) (d .q .ends) c, ended-ge (m .p) (d .p .ends) b)
+    let c = end (m .r) (d .r .ends) (raise - unit * w) in
+    let b = end (m .q) (d .q .ends) c in
+    omega (arith, end-ge (m .r) (d .r .ends) (raise - unit * w), end-ge (m .q) (d .q .ends) c, end-ge (m .p) (d .p .ends) b)
 
 -- an edge's inside, as what it asks of the beginning and what it asks of the end
 asked : (e l g : Bool) → choose e g l ≡ (e || l) && (not e || g)
@@ -125,8 +125,8 @@ module _ (t : Vertices) (y : ℕ) (v : verticesInRange t ≡ true) (i : y ≤ 48
       let n : x < 640 = omega arith in
       let u = unit * x in
       let r = edges-in-range t v in
-      let c = begun (m .r) (d .r .ends) raise in
-      let f = ended (m .r) (d .r .ends) (raise - unit * w) in
+      let c = begin (m .r) (d .r .ends) raise in
+      let f = end (m .r) (d .r .ends) (raise - unit * w) in
       let first : leb raise (unit * x + raise) ≡ true = le-leb raise (unit * x + raise) (omega arith) in
       let last : ltb (unit * x + (raise - unit * w)) raise ≡ true = lt-ltb (unit * x + (raise - unit * w)) raise (omega arith) in
       ap₂ _&&_
@@ -137,17 +137,17 @@ module _ (t : Vertices) (y : ℕ) (v : verticesInRange t ≡ true) (i : y ≤ 48
       (d .r .ends || leb raise (unit * x + m .r)) (not (d .r .ends) || ltb (unit * x + m .r) raise)
       ∙ ap₂ _&&_
       (sym
-      (begun-at u (m .p) (d .p .ends) (begun (m .q) (d .q .ends) c)
+      (begin-at u (m .p) (d .p .ends) (begin (m .q) (d .q .ends) c)
       ∙ ap (λ (u : Bool). (d .p .ends || leb raise (unit * x + m .p)) && u)
-      (begun-at u (m .q) (d .q .ends) c
+      (begin-at u (m .q) (d .q .ends) c
       ∙ ap (λ (u : Bool). (d .q .ends || leb raise (unit * x + m .q)) && u)
-      (begun-at u (m .r) (d .r .ends) raise ∙ ap (λ (u : Bool). (d .r .ends || leb raise (unit * x + m .r)) && u) first))))
+      (begin-at u (m .r) (d .r .ends) raise ∙ ap (λ (u : Bool). (d .r .ends || leb raise (unit * x + m .r)) && u) first))))
       (sym
-      (ended-at u (m .p) (d .p .ends) (ended (m .q) (d .q .ends) f)
+      (end-at u (m .p) (d .p .ends) (end (m .q) (d .q .ends) f)
       ∙ ap (λ (u : Bool). (not (d .p .ends) || ltb (unit * x + m .p) raise) && u)
-      (ended-at u (m .q) (d .q .ends) f
+      (end-at u (m .q) (d .q .ends) f
       ∙ ap (λ (u : Bool). (not (d .q .ends) || ltb (unit * x + m .q) raise) && u)
-      (ended-at u (m .r) (d .r .ends) (raise - unit * w) ∙ ap (λ (u : Bool). (not (d .r .ends) || ltb (unit * x + m .r) raise) && u) last))))
+      (end-at u (m .r) (d .r .ends) (raise - unit * w) ∙ ap (λ (u : Bool). (not (d .r .ends) || ltb (unit * x + m .r) raise) && u) last))))
 
   -- no column is both from the beginning on and before the end
   pub span-none : leastOf m d ≤ mostOf m d w → RowSpan t y w (record { from = 0; to = 0 })
@@ -162,7 +162,7 @@ module _ (t : Vertices) (y : ℕ) (v : verticesInRange t ≡ true) (i : y ≤ 48
       go x true e = le-ltb (unit * x + mostOf m d w) raise (omega (arith, leb-true raise (unit * x + leastOf m d) e))
       go x false e = refl
 
-  pub span-some : mostOf m d w < leastOf m d → RowSpan t y w (record { from = columnOf (leastOf m d); to = columnOf (mostOf m d w) })
+  pub span-some : mostOf m d w < leastOf m d → RowSpan t y w (record { from = column (leastOf m d); to = column (mostOf m d w) })
   span-some l =
       record {
         ordered = omega arith;
@@ -170,10 +170,10 @@ module _ (t : Vertices) (y : ℕ) (v : verticesInRange t ≡ true) (i : y ≤ 48
         run = λ x h. all-inside x h ∙ ap₂ _&&_ (from x (leb raise (unit * x + leastOf m d)) refl) (to x (ltb (unit * x + mostOf m d w) raise) refl);
       }
     where
-      from : (x : ℕ) (u : Bool) → leb raise (unit * x + leastOf m d) ≡ u → u ≡ leb (columnOf (leastOf m d)) x
-      from x true e = sym (le-leb (columnOf (leastOf m d)) x (omega (arith, leb-true raise (unit * x + leastOf m d) e)))
-      from x false e = sym (lt-leb (columnOf (leastOf m d)) x (omega (arith, least-le m d, leb-false raise (unit * x + leastOf m d) e)))
+      from : (x : ℕ) (u : Bool) → leb raise (unit * x + leastOf m d) ≡ u → u ≡ leb (column (leastOf m d)) x
+      from x true e = sym (le-leb (column (leastOf m d)) x (omega (arith, leb-true raise (unit * x + leastOf m d) e)))
+      from x false e = sym (lt-leb (column (leastOf m d)) x (omega (arith, least-le m d, leb-false raise (unit * x + leastOf m d) e)))
 
-      to : (x : ℕ) (u : Bool) → ltb (unit * x + mostOf m d w) raise ≡ u → u ≡ ltb x (columnOf (mostOf m d w))
-      to x true e = sym (lt-ltb x (columnOf (mostOf m d w)) (omega (arith, ltb-true (unit * x + mostOf m d w) raise e)))
-      to x false e = sym (le-ltb x (columnOf (mostOf m d w)) (omega (arith, ltb-false (unit * x + mostOf m d w) raise e)))
+      to : (x : ℕ) (u : Bool) → ltb (unit * x + mostOf m d w) raise ≡ u → u ≡ ltb x (column (mostOf m d w))
+      to x true e = sym (lt-ltb x (column (mostOf m d w)) (omega (arith, ltb-true (unit * x + mostOf m d w) raise e)))
+      to x false e = sym (le-ltb x (column (mostOf m d w)) (omega (arith, ltb-false (unit * x + mostOf m d w) raise e)))

@@ -14,7 +14,7 @@ use Rattle.ints.proofs.Order.{ltZ-true}
 use Rattle.ints.proofs.Bounds.{Within, fits-64}
 use Rattle.ints.proofs.Machine.{got-lit, Code, known, _⊟_, word-of, meant, fine, reads-as}
 use Rattle.rules.specs.Triangles.{positive, isZero, negative}
-use Rattle.cover.specs.Side.{scaleOf}
+use Rattle.cover.specs.Side.{scale}
 
 abbrev pub zeroC : Code w64
 zeroC = known (got-lit w64 0 tt)
@@ -77,6 +77,6 @@ neither-zero z f h k = neither z (read-above z f h) (read-below z f k)
 
 -- what `in_ticks` makes of a number and of dy, as it reads both
 pub scaled-read : (d : Code w64) (t : T (fine d)) {v w : ℤ} {n : ℕ} → v ≡ w → Within n w → n < 9223372036854775808
-    → scaleOf (toZ w64 (word-of d)) *ℤ toZ w64 (ofZ w64 v) ≡ scaleOf (meant d) *ℤ w
+    → scale (toZ w64 (word-of d)) *ℤ toZ w64 (ofZ w64 v) ≡ scale (meant d) *ℤ w
 scaled-read d t {v} {n = n} e h l =
-    ap₂ (λ (y z : ℤ). scaleOf y *ℤ z) (reads-as d t) (toZ-ofZ w64 v (fits-64 (subst (Within n) (sym e) h) l) ∙ e)
+    ap₂ (λ (y z : ℤ). scale y *ℤ z) (reads-as d t) (toZ-ofZ w64 v (fits-64 (subst (Within n) (sym e) h) l) ∙ e)

@@ -26,22 +26,22 @@ abbrev pub rising : Edge → ℕ → ℕ → ℤ
 rising e x y = choose (positive (dy e)) (negsuc 0 -ℤ sided e x y) (sided e x y)
 
 -- what a column adds, and how many times the value is taken: a level edge's 640 times, so that a column may add 1
-abbrev pub acrossOf : ℤ → ℕ
-acrossOf dy = choose (isZero dy) 1 (8 * natAbs dy)
+abbrev pub across : ℤ → ℕ
+across dy = choose (isZero dy) 1 (8 * natAbs dy)
 
 abbrev pub times : ℤ → ℕ
 times dy = choose (isZero dy) 640 1
 
 -- how many times, in ticks of a column
-abbrev pub scaleOf : ℤ → ℤ
-scaleOf dy = pos (unit * times dy)
+abbrev pub scale : ℤ → ℤ
+scale dy = pos (unit * times dy)
 
 -- what a row adds to the rising value
-abbrev pub downOf : ℤ → ℤ → ℤ
-downOf dx dy = choose (positive dy) (pos 0 -ℤ pos 8 *ℤ dx) (pos 8 *ℤ dx)
+abbrev pub down : ℤ → ℤ → ℤ
+down dx dy = choose (positive dy) (pos 0 -ℤ pos 8 *ℤ dx) (pos 8 *ℤ dx)
 
 pub record SideOf (e : Edge) (d : Side) : Type 0 where
-  pub is-down : Rounded (scaleOf (dy e) *ℤ downOf (dx e) (dy e)) (acrossOf (dy e)) lift 1 (d .down)
+  pub is-down : Rounded (scale (dy e) *ℤ down (dx e) (dy e)) (across (dy e)) lift 1 (d .down)
   pub is-ends : d .ends ≡ positive (dy e)
 
 pub record SidesOf (v : Vertices) (d : Sides) : Type 0 where
@@ -51,7 +51,7 @@ pub record SidesOf (v : Vertices) (d : Sides) : Type 0 where
 
 -- how far before column 0 the edge turns in row y; a rounding for each row so far
 abbrev pub CrossingOf : Edge → ℕ → ℕ → Type 0
-CrossingOf e y m = Rounded (scaleOf (dy e) *ℤ rising e 0 y) (acrossOf (dy e)) raise (y + 1) m
+CrossingOf e y m = Rounded (scale (dy e) *ℤ rising e 0 y) (across (dy e)) raise (y + 1) m
 
 pub record CrossingsOf (v : Vertices) (y : ℕ) (m : Crossings) : Type 0 where
   pub of1 : CrossingOf (edge1 v) y (m .p)

@@ -14,16 +14,16 @@ abbrev pub inSpan : ℕ → ℕ → ℕ → Bool
 inSpan from to x = leb from x && ltb x to
 
 -- of two crossings, the one whose column is further right; one where the inside ends does not count
-abbrev pub begun : ℕ → Bool → ℕ → ℕ
-begun crossing ends least = choose ends least (choose (ltb crossing least) crossing least)
+abbrev pub begin : ℕ → Bool → ℕ → ℕ
+begin crossing ends least = choose ends least (choose (ltb crossing least) crossing least)
 
 -- the one further left; one where the inside begins does not count
-abbrev pub ended : ℕ → Bool → ℕ → ℕ
-ended crossing ends most = choose ends (choose (ltb most crossing) crossing most) most
+abbrev pub end : ℕ → Bool → ℕ → ℕ
+end crossing ends most = choose ends (choose (ltb most crossing) crossing most) most
 
 -- the first column that is not before a crossing
-abbrev pub columnOf : ℕ → ℕ
-columnOf crossing = (raise - crossing + (unit - 1)) / unit
+abbrev pub column : ℕ → ℕ
+column crossing = (raise - crossing + (unit - 1)) / unit
 
 -- the pixels of row y inside all three edges, among the first w, are those of the columns r
 pub record RowSpan (t : Vertices) (y w : ℕ) (r : Span) : Type 0 where

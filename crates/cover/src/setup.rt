@@ -11,7 +11,7 @@ ghost use Prim.Native.Nat.{_≤_};
 ghost use lib.IntN.{natAbs};
 ghost use Rattle.rules.specs.Numbers.{verticesInRange};
 ghost use Rattle.edges.specs.Edges.{edgeFrom, edgeInRange};
-ghost use Rattle.cover.specs.Side.{loss, rising, downOf, SideOf, SidesOf};
+ghost use Rattle.cover.specs.Side.{loss, rising, down, SideOf, SidesOf};
 
 // What an edge's value loses where its zeros are outside.
 fn loss(dx: i64, dy: i64) -> i64
@@ -46,7 +46,7 @@ pub fn rising_value(x1: i32, y1: i32, x2: i32, y2: i32, y: u32) -> i64
 // What one row adds to the rising value.
 fn down(dx: i64, dy: i64) -> i64
     requires { ⌜ natAbs dx ≤ 16384 ⌝ }
-    ensures { λ r. ⌜ r ≡ downOf dx dy ⌝ }
+    ensures { λ r. ⌜ r ≡ down dx dy ⌝ }
 {
     if 0 < dy {
         return 0 - 8 * dx;

@@ -11,11 +11,11 @@ ghost use Rattle.rules.specs.declared.Vertices.{Vertices};
 ghost use Rattle.rules.specs.Numbers.{verticesInRange};
 ghost use Rattle.cover.specs.Units.{unit, raise};
 ghost use Rattle.cover.specs.Side.{SidesOf, CrossingsOf};
-ghost use Rattle.cover.specs.Spans.{begun, ended, columnOf, RowSpan};
+ghost use Rattle.cover.specs.Spans.{begin, end, column, RowSpan};
 
 // Of two crossings where the inside begins, the one further right, which is the lesser; one where it ends does not count.
 fn begin(crossing: u64, ends: bool, least: u64) -> u64
-    ensures { λ r. ⌜ r ≡ begun crossing ends least ⌝ }
+    ensures { λ r. ⌜ r ≡ begin crossing ends least ⌝ }
 {
     if ends {
         return least;
@@ -28,7 +28,7 @@ fn begin(crossing: u64, ends: bool, least: u64) -> u64
 
 // Of two where it ends, the one further left, which is the greater; one where it begins does not count.
 fn end(crossing: u64, ends: bool, most: u64) -> u64
-    ensures { λ r. ⌜ r ≡ ended crossing ends most ⌝ }
+    ensures { λ r. ⌜ r ≡ end crossing ends most ⌝ }
 {
     if ends {
         if most < crossing {
@@ -42,7 +42,7 @@ fn end(crossing: u64, ends: bool, most: u64) -> u64
 // The first column that is not before a crossing.
 fn column(crossing: u64) -> u32
     requires { ⌜ (crossing ≤ raise) × (raise ≤ crossing + unit * 640) ⌝ }
-    ensures { λ r. ⌜ r ≡ columnOf crossing ⌝ }
+    ensures { λ r. ⌜ r ≡ column crossing ⌝ }
 {
     ((RAISE - crossing + (UNIT - 1)) / UNIT) as u32
 }

@@ -9,7 +9,7 @@ use Rattle.ints.proofs.Machine.{Code, word-of, need, reads-as, size-of}
 use Rattle.rules.specs.Triangles.{Edge, dy}
 use Rattle.cover.specs.Units.{raise, Rounded}
 use Rattle.edges.specs.Edges.{edgeFrom}
-use Rattle.cover.specs.Side.{rising, acrossOf, scaleOf}
+use Rattle.cover.specs.Side.{rising, across, scale}
 use Rattle.edges.proofs.Within.{EdgeWithin, edge-within, read-edge, read-in-range}
 use Rattle.edges.proofs.Codes as code
 use Rattle.cover.proofs.Signs.{scaled-read}
@@ -47,7 +47,7 @@ is-rising c =
 -- as `in_ticks` reads both
 is-scaled : (c : tie.After-rising-value) →
     let s = c .before in
-    scaleOf (toZ w64 (word-of (dyC s))) *ℤ toZ w64 (ofZ w64 (c .rising-value .result)) ≡ scaleOf (dy (edge s)) *ℤ rising (edge s) 0 (s .args .y)
+    scale (toZ w64 (word-of (dyC s))) *ℤ toZ w64 (ofZ w64 (c .rising-value .result)) ≡ scale (dy (edge s)) *ℤ rising (edge s) 0 (s .args .y)
 is-scaled c =
     let s = c .before in
     scaled-read (dyC s) tt (is-rising c) (rising-within (edge s) (in-range s) (s .args .y) (s .pre .1)) (omega arith)
@@ -63,7 +63,7 @@ returns : tie.Need-returns
 returns c =
     let s = c .before .before in
     rounded-more
-    (subst₂ (λ z a. Rounded z a raise 1 (c .in-ticks .result)) (is-scaled (c .before)) (ap acrossOf (reads-as (dyC s) tt)) (c .in-ticks .ensures))
+    (subst₂ (λ z a. Rounded z a raise 1 (c .in-ticks .result)) (is-scaled (c .before)) (ap across (reads-as (dyC s) tt)) (c .in-ticks .ensures))
     (s .args .y + 1) (omega arith)
 
 pub crossing-spec : {M : Type 1} → statement M

@@ -9,7 +9,7 @@ use Rattle.ints.proofs.Machine.{Code, word-of, need, reads-as, size-of}
 use Rattle.rules.specs.Triangles.{Edge, dx, dy}
 use Rattle.cover.specs.Units.{lift, Rounded}
 use Rattle.edges.specs.Edges.{edgeFrom}
-use Rattle.cover.specs.Side.{acrossOf, scaleOf, downOf}
+use Rattle.cover.specs.Side.{across, scale, down}
 use Rattle.edges.proofs.Within.{EdgeWithin, edge-within}
 use Rattle.edges.proofs.Codes as code
 use Rattle.cover.proofs.Signs.{code-above, scaled-read}
@@ -50,8 +50,8 @@ sub-dy c = need (dyC c) tt
 down-requires : tie.Need-down-requires
 down-requires c κs = size-of (dxC c) tt
 
-is-down : (c : tie.After-down) → c .down .result ≡ downOf (dx (edge (c .before))) (dy (edge (c .before)))
-is-down c = c .down .ensures ∙ ap₂ downOf (reads-as (dxC (c .before)) tt) (reads-as (dyC (c .before)) tt)
+is-down : (c : tie.After-down) → c .down .result ≡ down (dx (edge (c .before))) (dy (edge (c .before)))
+is-down c = c .down .ensures ∙ ap₂ down (reads-as (dxC (c .before)) tt) (reads-as (dyC (c .before)) tt)
 
 small : (c : tie.Start) → Within 16384 (dx (edge c))
 small c = let w = in-range c in within-sub (w .in-x2) (w .in-x1)
@@ -59,7 +59,7 @@ small c = let w = in-range c in within-sub (w .in-x2) (w .in-x1)
 -- as `in_ticks` reads both
 is-scaled : (c : tie.After-down) →
     let e = edge (c .before) in
-    scaleOf (toZ w64 (word-of (dyC (c .before)))) *ℤ toZ w64 (ofZ w64 (c .down .result)) ≡ scaleOf (dy e) *ℤ downOf (dx e) (dy e)
+    scale (toZ w64 (word-of (dyC (c .before)))) *ℤ toZ w64 (ofZ w64 (c .down .result)) ≡ scale (dy e) *ℤ down (dx e) (dy e)
 is-scaled c =
     let e = edge (c .before) in
     scaled-read (dyC (c .before)) tt (is-down c) (down-within (dx e) (dy e) (small (c .before))) (omega arith)
@@ -75,7 +75,7 @@ returns : tie.Need-returns
 returns c =
     let s = c .before .before in
     record {
-      is-down = subst₂ (λ z a. Rounded z a lift 1 (c .in-ticks .result)) (is-scaled (c .before)) (ap acrossOf (reads-as (dyC s) tt)) (c .in-ticks .ensures);
+      is-down = subst₂ (λ z a. Rounded z a lift 1 (c .in-ticks .result)) (is-scaled (c .before)) (ap across (reads-as (dyC s) tt)) (c .in-ticks .ensures);
       is-ends = sym (code-above (dyC s) tt refl);
     }
 

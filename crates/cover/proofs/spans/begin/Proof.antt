@@ -1,4 +1,4 @@
--- The tests are those of `begun`.
+-- The tests are those of `begin`.
 use borrow.Author.Tests.{lt-ltb, le-ltb}
 use borrow.Author.Needs.{needs}
 use Rattle.cover.proofs.spans.begin.Statement.{statement}

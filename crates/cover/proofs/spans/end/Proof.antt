@@ -1,4 +1,4 @@
--- The tests are those of `ended`.
+-- The tests are those of `end`.
 use borrow.Author.Tests.{lt-ltb, le-ltb}
 use Rattle.cover.proofs.spans.end.Statement.{statement}
 use Rattle.cover.proofs.spans.end.Tie as tie

@@ -3,7 +3,7 @@ use Prim.Native.Nat.{ℕ, _+_, _*_, _≤_, _<_}
 use mathlib.Core.Path.{_≡_, sym, _∙_, ap, subst₂}
 use native.Mathlib.Omega.{arith}
 use Rattle.cover.specs.Units.{unit, raise}
-use Rattle.cover.specs.Spans.{begun, ended, columnOf, RowSpan}
+use Rattle.cover.specs.Spans.{begin, end, column, RowSpan}
 use Rattle.cover.proofs.Meeting.{leastOf, mostOf, least-le, most-ge, span-none, span-some}
 use borrow.Author.Needs.{needs}
 use Rattle.cover.proofs.spans.row_span.Statement.{statement}
@@ -39,9 +39,9 @@ least : (c : tie.After-end3) →
 least c =
     let a = c .before .before .before .before .before .before .args in
     c .before .before .before .begin3 .ensures
-    ∙ ap (begun (a .m .p) (a .d .p .ends))
+    ∙ ap (begin (a .m .p) (a .d .p .ends))
     (c .before .before .before .before .begin2 .ensures
-    ∙ ap (begun (a .m .q) (a .d .q .ends)) (c .before .before .before .before .before .begin .ensures))
+    ∙ ap (begin (a .m .q) (a .d .q .ends)) (c .before .before .before .before .before .begin .ensures))
 
 most : (c : tie.After-end3) →
     let a = c .before .before .before .before .before .before .args in
@@ -49,8 +49,8 @@ most : (c : tie.After-end3) →
 most c =
     let a = c .before .before .before .before .before .before .args in
     c .end3 .ensures
-    ∙ ap (ended (a .m .p) (a .d .p .ends))
-    (c .before .end2 .ensures ∙ ap (ended (a .m .q) (a .d .q .ends)) (c .before .before .end .ensures))
+    ∙ ap (end (a .m .p) (a .d .p .ends))
+    (c .before .end2 .ensures ∙ ap (end (a .m .q) (a .d .q .ends)) (c .before .before .end .ensures))
 
 returns : tie.Need-returns
 returns c t y v i o h =
@@ -82,8 +82,8 @@ returns-2 c t y v i o h =
     let e = c .before .before .before in
     let s = e .before .before .before .before .before .before in
     subst₂ (λ (f g : ℕ). RowSpan t y (s .args .w) (record { from = f; to = g }))
-    (sym (c .before .column .ensures ∙ ap columnOf (least e)))
-    (sym (c .column2 .ensures ∙ ap columnOf (most e)))
+    (sym (c .before .column .ensures ∙ ap column (least e)))
+    (sym (c .column2 .ensures ∙ ap column (most e)))
     (span-some t y v i (s .args .d) (s .args .m) o h (s .args .w) (s .pre) (omega (arith, least e, most e, c .before .before .if1 .left)))
 
 pub row-span-spec : {M : Type 1} → statement M

@@ -18,8 +18,8 @@ use Rattle.cover.proofs.ticks.across.Tie as tie
 abbrev up : tie.Start → Code w64
 up c = eightC ⊠ known (got-arg (c .fits .dy) (record { within = c .pre }))
 
-abbrev down : tie.Start → Code w64
-down c = zeroC ⊟ up c
+abbrev negated : tie.Start → Code w64
+negated c = zeroC ⊟ up c
 
 up-natural : (c : tie.Then1) → pos 0 ≤ℤ (pos 8 *ℤ c .before .args .dy)
 up-natural c =
@@ -54,16 +54,16 @@ mul-result-2 : tie.Need-mul-result-2
 mul-result-2 c = need (up (c .before .before)) tt
 
 sub-result : tie.Need-sub-result
-sub-result c = need (down (c .before .before)) tt
+sub-result c = need (negated (c .before .before)) tt
 
 cast-result-2 : tie.Need-cast-result-2
-cast-result-2 c = need-unsigned w64 (got-of (down (c .before .before)) tt) (down-natural c) tt
+cast-result-2 c = need-unsigned w64 (got-of (negated (c .before .before)) tt) (down-natural c) tt
 
 returns-2 : tie.Need-returns-2
 returns-2 c =
     let a = c .before .before in
     rw (below-zero (a .args .dy) (a .fits .dy) (c .if2 .taken))
-    (ap natAbs (reads-as (down a) tt) ∙ abs-down (a .args .dy))
+    (ap natAbs (reads-as (negated a) tt) ∙ abs-down (a .args .dy))
 
 returns-3 : tie.Need-returns-3
 returns-3 c =

@@ -8,7 +8,7 @@ use mir.ValLaws.{toZ-ofZ}
 use Rattle.ints.proofs.Bounds.{Within, fits-64}
 use Rattle.ints.proofs.Machine.{Made, made}
 use Rattle.cover.specs.Units.{Rounded}
-use Rattle.cover.specs.Side.{acrossOf, scaleOf}
+use Rattle.cover.specs.Side.{across, scale}
 use Rattle.cover.proofs.Crossing.{across-least, scale-within}
 use borrow.Author.Needs.{needs}
 use Rattle.cover.proofs.ticks.in_ticks.Statement.{statement}
@@ -20,12 +20,12 @@ scale-requires c κs = search needs
 own : (c : tie.Start) → toZ w64 (ofZ w64 (c .args .dy)) ≡ c .args .dy
 own c = toZ-ofZ w64 (c .args .dy) (c .fits .dy)
 
-is-scale : (c : tie.After-scale) → c .scale .result ≡ scaleOf (c .before .args .dy)
-is-scale c = c .scale .ensures ∙ ap scaleOf (own (c .before))
+is-scale : (c : tie.After-scale) → c .scale .result ≡ scale (c .before .args .dy)
+is-scale c = c .scale .ensures ∙ ap scale (own (c .before))
 
 product : (c : tie.After-scale) →
     let a = c .before .args in
-    Made w64 (toZ w64 (ofZ w64 (c .scale .result)) *ℤ toZ w64 (ofZ w64 (a .v))) (scaleOf (a .dy) *ℤ a .v) 9000000000000000000
+    Made w64 (toZ w64 (ofZ w64 (c .scale .result)) *ℤ toZ w64 (ofZ w64 (a .v))) (scale (a .dy) *ℤ a .v) 9000000000000000000
 product c =
     let s = c .before in
     made
@@ -41,8 +41,8 @@ mul-rounded-up c = product c .fits
 across-requires : tie.Need-across-requires
 across-requires c κs = let s = c .before in omega (arith, ap natAbs (own s), s .pre .0)
 
-is-across : (c : tie.After-across) → c .across .result ≡ acrossOf (c .before .before .args .dy)
-is-across c = c .across .ensures ∙ ap acrossOf (own (c .before .before))
+is-across : (c : tie.After-across) → c .across .result ≡ across (c .before .before .args .dy)
+is-across c = c .across .ensures ∙ ap across (own (c .before .before))
 
 rounded-up-requires : tie.Need-rounded-up-requires
 rounded-up-requires c κs =
