@@ -8,11 +8,9 @@ use rules::Drawn;
 use rules::Screen;
 use rules::Triangle;
 use screen::rows::RowPart;
-ghost use mathlib.Core.Path.{_≡_};
 ghost use lib.ListN.{length};
 ghost use Rattle.rules.specs.Calls.{Clears, Draws};
-ghost use Rattle.rules.specs.Numbers.{rowNumber};
-ghost use Rattle.screen.specs.Rows.{Locates};
+ghost use Rattle.screen.specs.Rows.{Checks, Locates};
 ghost use Rattle.merikohin.specs.Lends.{Lends, RunsLent};
 
 #[no_mangle]
@@ -31,7 +29,7 @@ pub extern "C" fn merikohin_draw(ram: &mut [u8], s: Screen, t: Triangle) -> Draw
 
 #[no_mangle]
 pub extern "C" fn merikohin_row_check(ram: &[u8], s: Screen, row: u32) -> u32
-    ensures { λ r. ⌜ r ≡ rowNumber (length (now (ram .entry))) s row ⌝ }
+    ensures { λ r. ⌜ Checks (length (now (ram .entry))) s row r ⌝ }
 {
     screen::rows::row_check(ram, s, row)
 }

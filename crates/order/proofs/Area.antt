@@ -1,93 +1,34 @@
--- A triangle whose doubled area is not positive covers no pixel: the three edge values sum to the doubled area at every point, so a point
--- inside all edges has three zeros, and the steps of three edges that keep their zeros cannot sum to 0, as those of a triangle do.
-use Prim.Native.Nat.{ℕ, zero, suc, _+_, _<_}
-use mathlib.Core.Path.{_≡_, refl, sym, _∙_}
+-- A triangle whose doubled area is not positive covers no pixel: the three edge values sum to the doubled area at every point, and a point
+-- inside all edges has no value below 0 and not three zeros.
+use Prim.Native.Nat.{ℕ, zero, suc}
+use mathlib.Core.Path.{_≡_, refl, sym, _∙_, ap}
+use mathlib.Core.Logic.{_⊎_, inl, inr}
 use mathlib.Core.Bool.{Bool, true, false, false≢true, true≢false}
 use mathlib.Core.List.{List, [], _∷_}
 use native.Mathlib.Omega.{arith}
-use lib.IntN.{ℤ, pos, negsuc, _+ℤ_, _-ℤ_}
-use Rattle.ints.proofs.Poly.{Exp, var, con, _⊕_, _⊖_, _⊗_, solve}
-use Rattle.ints.proofs.Order.{up, dn, is-self, is-add, eq-is}
+use lib.IntN.{ℤ, pos, negsuc, negℤ, _+ℤ_}
+use lib.Signed.{_≤ℤ_, leZ-yes, ≤ℤ-refl}
+use Rattle.ints.proofs.Poly.{Exp, var, con, neg, _⊕_, _⊖_, _⊗_, solve}
+use Rattle.ints.proofs.Order.{le-to, eq-to, eq-of}
 use Rattle.rules.specs.declared.Screen.{Screen}
 use Rattle.rules.specs.declared.Triangle.{Triangle}
 use Rattle.rules.specs.Sizes.{width, height}
-use Rattle.rules.specs.Triangles.{Point, edge1, edge2, edge3, dx, dy, edgeValue, positive, sample, covered, coveredPixels, doubledArea}
+use Rattle.rules.specs.Triangles.{Point, edge1, edge2, edge3, edgeValue, positive, insideAll, sample, covered, coveredPixels, doubledArea}
 use Rattle.rules.proofs.Folds.{pixels-none}
-use Rattle.order.specs.Order.{Side, first, second, third, side}
-use Rattle.order.proofs.Sides.{within, inside-is, inside-side}
+use Rattle.rules.proofs.Closing.{no-value-below, not-three-zeros}
+use Rattle.order.specs.Sides.{Side, first, second, third}
+use Rattle.order.specs.Sides.{turnedTwin}
+use Rattle.order.proofs.Sides.{inside-covered}
 
-not-below : (v u w : ℤ) → within v u w ≡ true → dn v ≡ 0
-not-below (pos n) u w e = refl
-not-below (negsuc n) u w e = absurd (false≢true e)
-
-not-down : (v u w : ℤ) → within v u w ≡ true → up v ≡ 0 → up w ≡ 0
-not-down (pos (suc n)) u w e z = absurd (omega arith)
-not-down (pos zero) u (pos zero) e z = refl
-not-down (pos zero) u (pos (suc n)) e z = absurd (false≢true e)
-not-down (pos zero) u (negsuc n) e z = refl
-not-down (negsuc n) u w e z = absurd (false≢true e)
-
-to-the-right : (v u w : ℤ) → within v u w ≡ true → up v ≡ 0 → dn w ≡ 0 → (0 < up u) × (dn u ≡ 0)
-to-the-right (pos (suc n)) u w e z d = absurd (omega arith)
-to-the-right (pos zero) u (negsuc n) e z d = absurd (omega arith)
-to-the-right (pos zero) u (pos (suc n)) e z d = absurd (false≢true e)
-to-the-right (pos zero) (pos zero) (pos zero) e z d = absurd (false≢true e)
-to-the-right (pos zero) (pos (suc n)) (pos zero) e z d = (omega arith, refl)
-to-the-right (pos zero) (negsuc n) (pos zero) e z d = absurd (false≢true e)
-to-the-right (negsuc n) u w e z d = absurd (false≢true e)
-
-not-up : (a : ℤ) → positive a ≡ false → up a ≡ 0
-not-up (pos zero) e = refl
-not-up (pos (suc n)) e = absurd (true≢false e)
-not-up (negsuc n) e = refl
-
--- a sum of three, in naturals
-sum-of-three : (a b c d : ℤ) → a +ℤ b +ℤ c ≡ d → up a + up b + up c + dn d ≡ up d + (dn a + dn b + dn c)
-sum-of-three a b c d e = eq-is (is-add (is-add (is-self a) (is-self b)) (is-self c)) (is-self d) e
-
--- three edges whose steps sum to 0, all with the point inside: their values sum to a positive number
-module _
-    (v₁ v₂ v₃ u₁ u₂ u₃ w₁ w₂ w₃ : ℤ)
-    (e₁ : within v₁ u₁ w₁ ≡ true)
-    (e₂ : within v₂ u₂ w₂ ≡ true)
-    (e₃ : within v₃ u₃ w₃ ≡ true)
-    (across : u₁ +ℤ u₂ +ℤ u₃ ≡ pos 0)
-    (down : w₁ +ℤ w₂ +ℤ w₃ ≡ pos 0)
-  where
-    positive-sum : (a : ℤ) → v₁ +ℤ v₂ +ℤ v₃ ≡ a → positive a ≡ true
-    positive-sum a s = go (positive a) refl
-      where
-        Zeros : ℕ → ℕ → ℕ → Type 0
-        Zeros i j k = (i ≡ 0) × (j ≡ 0) × (k ≡ 0)
-
-        go : (b : Bool) → positive a ≡ b → b ≡ true
-        go true e = refl
-        go false e =
-            let n : Zeros (dn v₁) (dn v₂) (dn v₃) = (not-below v₁ u₁ w₁ e₁, not-below v₂ u₂ w₂ e₂, not-below v₃ u₃ w₃ e₃) in
-            let z : Zeros (up v₁) (up v₂) (up v₃) = omega (arith, sum-of-three v₁ v₂ v₃ a s, not-up a e) in
-            let f : Zeros (up w₁) (up w₂) (up w₃) = (
-              not-down v₁ u₁ w₁ e₁ (z .0),
-              not-down v₂ u₂ w₂ e₂ (z .1),
-              not-down v₃ u₃ w₃ e₃ (z .2),
-            ) in
-            let d : Zeros (dn w₁) (dn w₂) (dn w₃) = omega (arith, sum-of-three w₁ w₂ w₃ (pos 0) down) in
-            absurd (omega (
-              arith,
-              sum-of-three u₁ u₂ u₃ (pos 0) across,
-              to-the-right v₁ u₁ w₁ e₁ (z .0) (d .0),
-              to-the-right v₂ u₂ w₂ e₂ (z .1) (d .1),
-              to-the-right v₃ u₃ w₃ e₃ (z .2) (d .2),
-            ))
-
--- the values of a triangle's edges sum to its doubled area, and its steps to 0
+-- the values of a triangle's edges sum to its doubled area
 module _ (t : Triangle) (p : Point) where
   abbrev ρ : List ℤ
-  ρ = t .vertices .x1 ∷ t .vertices .y1 ∷ t .vertices .x2 ∷ t .vertices .y2 ∷ t .vertices .x3 ∷ t .vertices .y3 ∷ p .px ∷ p .py ∷ []
+  ρ = let v = t .vertices in v .x1 ∷ v .y1 ∷ v .x2 ∷ v .y2 ∷ v .x3 ∷ v .y3 ∷ p .px ∷ p .py ∷ []
 
   abbrev value : Exp → Exp → Exp → Exp → Exp
   value x1 y1 x2 y2 = (var 7 ⊖ y1) ⊗ (x2 ⊖ x1) ⊖ (var 6 ⊖ x1) ⊗ (y2 ⊖ y1)
 
-  values-sum : edgeValue (edge1 (t .vertices)) p +ℤ edgeValue (edge2 (t .vertices)) p +ℤ edgeValue (edge3 (t .vertices)) p ≡ doubledArea (t .vertices)
+  pub values-sum : edgeValue (edge1 (t .vertices)) p +ℤ edgeValue (edge2 (t .vertices)) p +ℤ edgeValue (edge3 (t .vertices)) p ≡ doubledArea (t .vertices)
   unfolding edgeValue doubledArea
   values-sum =
       solve ρ
@@ -95,23 +36,34 @@ module _ (t : Triangle) (p : Point) where
       ((var 2 ⊖ var 0) ⊗ (var 5 ⊖ var 1) ⊖ (var 4 ⊖ var 0) ⊗ (var 3 ⊖ var 1))
       tt
 
-steps-sum : (a b c : ℤ) → (b -ℤ a) +ℤ (c -ℤ b) +ℤ (a -ℤ c) ≡ pos 0
-steps-sum a b c = solve (a ∷ b ∷ c ∷ []) (var 1 ⊖ var 0 ⊕ (var 2 ⊖ var 1) ⊕ (var 0 ⊖ var 2)) (con (pos 0)) tt
+not-positive : (z : ℤ) → positive z ≡ false → z ≤ℤ pos 0
+not-positive (pos zero) e = ≤ℤ-refl (pos 0)
+not-positive (pos (suc n)) e = absurd (true≢false e)
+not-positive (negsuc n) e = leZ-yes tt
+
+module _ (t : Triangle) (p : Point) (h : insideAll (t .vertices) p ≡ true) where
+  abbrev σ : List ℤ
+  σ = edgeValue (edge1 (t .vertices)) p ∷ edgeValue (edge2 (t .vertices)) p ∷ edgeValue (edge3 (t .vertices)) p ∷ doubledArea (t .vertices) ∷ []
+
+  pub inside-area : positive (doubledArea (t .vertices)) ≡ true
+  inside-area = go (positive (doubledArea (t .vertices))) refl
+    where
+      go : (b : Bool) → positive (doubledArea (t .vertices)) ≡ b → b ≡ true
+      go true e = refl
+      go false e =
+          let v = no-value-below (t .vertices) p h in
+          let l1 = le-to σ (con (pos 0)) (var 0) (v .0) in
+          let l2 = le-to σ (con (pos 0)) (var 1) (v .1) in
+          let l3 = le-to σ (con (pos 0)) (var 2) (v .2) in
+          let d = le-to σ (var 3) (con (pos 0)) (not-positive (doubledArea (t .vertices)) e) in
+          let s = eq-to σ (var 0 ⊕ var 1 ⊕ var 2) (var 3) (values-sum t p) in
+          absurd (not-three-zeros (t .vertices) p h
+          (eq-of σ (var 0) (con (pos 0)) (omega (arith, l1, l2, l3, d, s)))
+          (eq-of σ (var 1) (con (pos 0)) (omega (arith, l1, l2, l3, d, s)))
+          (eq-of σ (var 2) (con (pos 0)) (omega (arith, l1, l2, l3, d, s))))
 
 pub covered-area : (t : Triangle) (s : Screen) (x y : ℕ) → covered t s x y ≡ true → positive (doubledArea (t .vertices)) ≡ true
-covered-area t s x y c =
-    positive-sum
-    (edgeValue (edge1 (t .vertices)) (sample x y)) (edgeValue (edge2 (t .vertices)) (sample x y)) (edgeValue (edge3 (t .vertices)) (sample x y))
-    (dx (edge1 (t .vertices))) (dx (edge2 (t .vertices))) (dx (edge3 (t .vertices)))
-    (dy (edge1 (t .vertices))) (dy (edge2 (t .vertices))) (dy (edge3 (t .vertices)))
-    (test first) (test second) (test third)
-    (steps-sum (t .vertices .x1) (t .vertices .x2) (t .vertices .x3))
-    (steps-sum (t .vertices .y1) (t .vertices .y2) (t .vertices .y3))
-    (doubledArea (t .vertices))
-    (values-sum t (sample x y))
-  where
-    test : (i : Side) → within (edgeValue (side t i) (sample x y)) (dx (side t i)) (dy (side t i)) ≡ true
-    test i = sym (inside-is (side t i) (sample x y)) ∙ inside-side t s x y i c
+covered-area t s x y c = inside-area t (sample x y) (inside-covered t s x y c)
 
 module _ (t : Triangle) (s : Screen) (n : positive (doubledArea (t .vertices)) ≡ false) where
   pub no-area : (x y : ℕ) → covered t s x y ≡ false
@@ -123,3 +75,36 @@ module _ (t : Triangle) (s : Screen) (n : positive (doubledArea (t .vertices)) �
 
   pub no-area-counts : coveredPixels t s ≡ 0
   no-area-counts = pixels-none (covered t s) (width (s .size)) (height (s .size)) (λ x y a b. no-area x y)
+
+-- a triangle and its turned twin
+
+module _ (t : Triangle) where
+  abbrev areaE : Exp → Exp → Exp → Exp → Exp → Exp → Exp
+  areaE x1 y1 x2 y2 x3 y3 = (x2 ⊖ x1) ⊗ (y3 ⊖ y1) ⊖ (x3 ⊖ x1) ⊗ (y2 ⊖ y1)
+
+  abbrev ρ₆ : List ℤ
+  ρ₆ = let v = t .vertices in v .x1 ∷ v .y1 ∷ v .x2 ∷ v .y2 ∷ v .x3 ∷ v .y3 ∷ []
+
+  abbrev whole : Exp
+  whole = areaE (var 0) (var 1) (var 2) (var 3) (var 4) (var 5)
+
+  pub turned-area : (i : Side) → doubledArea (turnedTwin i t .vertices) ≡ negℤ (doubledArea (t .vertices))
+  unfolding doubledArea
+  turned-area first = solve ρ₆ (areaE (var 2) (var 3) (var 0) (var 1) (var 4) (var 5)) (neg whole) tt
+  turned-area second = solve ρ₆ (areaE (var 0) (var 1) (var 4) (var 5) (var 2) (var 3)) (neg whole) tt
+  turned-area third = solve ρ₆ (areaE (var 4) (var 5) (var 2) (var 3) (var 0) (var 1)) (neg whole) tt
+
+  -- one of the two covers nothing, on any screen
+  pub one-covers-none : (i : Side)
+      → ((s : Screen) (x y : ℕ) → covered t s x y ≡ false) ⊎ ((s : Screen) (x y : ℕ) → covered (turnedTwin i t) s x y ≡ false)
+  one-covers-none i = go (positive (doubledArea (t .vertices))) refl
+    where
+      turned-sign : (z : ℤ) → positive z ≡ true → positive (negℤ z) ≡ false
+      turned-sign (pos zero) e = refl
+      turned-sign (pos (suc n)) e = refl
+      turned-sign (negsuc n) e = absurd (false≢true e)
+
+      go : (b : Bool) → positive (doubledArea (t .vertices)) ≡ b
+          → ((s : Screen) (x y : ℕ) → covered t s x y ≡ false) ⊎ ((s : Screen) (x y : ℕ) → covered (turnedTwin i t) s x y ≡ false)
+      go true e = inr (λ s. no-area (turnedTwin i t) s (ap positive (turned-area i) ∙ turned-sign (doubledArea (t .vertices)) e))
+      go false e = inl (λ s. no-area t s e)

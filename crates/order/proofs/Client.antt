@@ -1,25 +1,27 @@
--- From the calls' contracts alone: what every pixel holds after a call, and that a sound screen stays sound, so that a client chains calls
--- of any number. The last theorem is such a chain, a clear and a triangle.
-use Prim.Native.Nat.{ℕ, _<_}
+-- From the calls' contracts alone: what every pixel holds after a call, which calls are accepted, and that lengths and a sound screen stay,
+-- so that a client chains calls of any number. The last theorem is such a chain, a clear and a list of triangles.
+use Prim.Native.Nat.{ℕ}
 use mathlib.Core.Path.{_≡_, sym, _∙_, ap, subst}
 use mathlib.Core.Logic.{_≢_}
 use mathlib.Core.Bool.{true}
 use mathlib.Core.List.{List}
+use native.Mathlib.Decide.{ℕ-discrete}
 use lib.ListN.{length}
 use Rattle.rules.specs.declared.Screen.{Screen}
 use Rattle.rules.specs.declared.Triangle.{Triangle}
 use Rattle.rules.specs.declared.Drawn.{Drawn}
 use Rattle.rules.specs.Folds.{choose}
-use Rattle.ram.specs.Ram.{loadHalf}
-use Rattle.rules.specs.Sizes.{width, height, colourAt, sound}
+use Rattle.rules.specs.Sizes.{sound}
 use Rattle.rules.specs.Triangles.{written, triangleColour, triangleDepth, drawn}
-use Rattle.rules.specs.Numbers.{screenNumber, triangleNumber}
+use Rattle.rules.specs.Numbers.{verticesInRange, screenNumber, triangleNumber}
 use Rattle.rules.specs.Calls.{Clears, Draws, accepted, cleared}
 use Rattle.rules.proofs.Choices.{accepted-no}
-use Rattle.rules.proofs.Refusals.{screen-number-passed}
 use Rattle.order.specs.Pointwise.{Painted}
+use Rattle.order.specs.Lists.{afterList, DrawsAll}
+use Rattle.order.proofs.Numbers.{screen-accepted, triangle-number}
 use Rattle.order.proofs.Order.{accepted-sound, accepted-drawn}
-use Rattle.order.proofs.Pointwise.{drawn-pointwise, cleared-pointwise, painted-colour}
+use Rattle.order.proofs.Pointwise.{drawn-pointwise, cleared-pointwise}
+use Rattle.order.proofs.Lists.{list-paints, calls-drawn}
 
 module _ {m after : List ℕ} {s : Screen} {t : Triangle} {r : Drawn} (d : Draws m s t r after) where
   pub draw-refused : r .number ≢ 0 → after ≡ m
@@ -36,6 +38,17 @@ module _ {m after : List ℕ} {s : Screen} {t : Triangle} {r : Drawn} (d : Draws
       subst (λ (n : ℕ). sound n s ≡ true) (sym (draw-paints e .same-length))
       (accepted-sound (length m) s t (sym (d .answers) ∙ e))
 
+  pub draw-length : length after ≡ length m
+  draw-length = go (ℕ-discrete (r .number) 0)
+    where
+      go : Dec (r .number ≡ 0) → length after ≡ length m
+      go (yes e) = draw-paints e .same-length
+      go (no h) = ap length (draw-refused h)
+
+  -- on a screen that a clear accepts, a triangle with its vertices in range is drawn
+  pub draw-accepted : screenNumber (length m) s ≡ 0 → verticesInRange (t .vertices) ≡ true → r .number ≡ 0
+  draw-accepted z v = d .answers ∙ triangle-number (length m) s t z ∙ ap (λ b. choose b 0 6) v
+
 module _ {m after : List ℕ} {s : Screen} {colour depth n : ℕ} (d : Clears m s colour depth n after) where
   pub clear-refused : n ≢ 0 → after ≡ m
   clear-refused h = d .leaves ∙ accepted-no (screenNumber (length m) s) (cleared s colour depth m) m (λ e. h (d .answers ∙ e))
@@ -45,23 +58,28 @@ module _ {m after : List ℕ} {s : Screen} {colour depth n : ℕ} (d : Clears m 
       let z : screenNumber (length m) s ≡ 0 = sym (d .answers) ∙ e in
       subst (Painted s (λ x y. true) (λ x y. colour) (λ x y. depth) m)
       (sym (d .leaves ∙ ap (λ k. accepted k (cleared s colour depth m) m) z))
-      (cleared-pointwise s m (screen-number-passed z .is-sound) colour depth)
+      (cleared-pointwise s m (screen-accepted (length m) s .0 z .1) colour depth)
 
   pub clear-keeps-sound : n ≡ 0 → sound (length after) s ≡ true
   clear-keeps-sound e =
       subst (λ (k : ℕ). sound k s ≡ true) (sym (clear-paints e .same-length))
-      (screen-number-passed (sym (d .answers) ∙ e) .is-sound)
+      (screen-accepted (length m) s .0 (sym (d .answers) ∙ e) .1)
 
--- a clear, then a triangle: a pixel's colour is the triangle's where it is written, else the clear's
-pub clear-then-draw : {m k l : List ℕ} {s : Screen} {colour depth n : ℕ} {t : Triangle} {r : Drawn}
+  pub clear-length : length after ≡ length m
+  clear-length = go (ℕ-discrete n 0)
+    where
+      go : Dec (n ≡ 0) → length after ≡ length m
+      go (yes e) = clear-paints e .same-length
+      go (no h) = ap length (clear-refused h)
+
+-- a clear, then a list of triangles: what every pixel holds, byte by byte, and that every other byte is as it was
+pub clear-then-list : {m k after : List ℕ} {s : Screen} {colour depth n : ℕ} {list : List Triangle}
     → Clears m s colour depth n k
-    → Draws k s t r l
     → n ≡ 0
-    → r .number ≡ 0
-    → (x y : ℕ)
-    → x < width (s .size)
-    → y < height (s .size)
-    → loadHalf l (colourAt s x y) ≡ choose (written t s k x y) (triangleColour t x y) colour
-clear-then-draw {s = s} {colour} {t = t} c d p q x y h v =
-    painted-colour (draw-paints d q) x y h v
-    ∙ ap (choose (written t s _ x y) (triangleColour t x y)) (painted-colour (clear-paints c p) x y h v)
+    → DrawsAll s list k after
+    → Painted s (λ x y. true)
+    (λ x y. afterList list s x y (record { colour = colour; depth = depth }) .colour)
+    (λ x y. afterList list s x y (record { colour = colour; depth = depth }) .depth)
+    m after
+clear-then-list {m} {k} {s = s} {list = list} c e d =
+    subst (Painted s (λ x y. true) _ _ m) (sym (calls-drawn d)) (list-paints s k (clear-keeps-sound c e) list (clear-paints c e))

@@ -1,8 +1,16 @@
+pub mod Numbers
 pub mod Pointwise
 pub mod Order
 pub mod Sides
+pub mod Turned
+pub mod Along
 pub mod CommonEdge
+pub mod Missed
+pub mod Signs
+pub mod Counts
+pub mod Rectangle
 pub mod Area
+pub mod Lists
 pub mod Rows
 pub mod Unique
 pub mod Client

@@ -22,9 +22,9 @@ use Rattle.rules.specs.Calls.{accepted, Draws}
 use Rattle.ram.proofs.Halves.{joined, joined-split, split-inj}
 use Rattle.rules.proofs.Pixels.{On, Outside, Sound, sound-facts, Cell, cell, painted}
 use Rattle.rules.proofs.Memory.{same-memory, on-rows}
-use Rattle.rules.proofs.Refusals.{screen-passed}
 use Rattle.rules.proofs.Drawing.{covered-on, merged, length-drawn, touched-drawn}
 use Rattle.order.specs.Order.{SameInBothOrders, Compatible}
+use Rattle.order.proofs.Numbers.{triangle-accepted}
 
 -- a colour and a depth put on the cell of a covered pixel
 put : ℕ → ℕ → Cell → Cell
@@ -179,8 +179,7 @@ module _ (s : Screen) (m : List ℕ) (h : sound (length m) s ≡ true) where
 -- the same of calls: each triangle is accepted at its first call
 
 pub accepted-sound : (n : ℕ) (s : Screen) (t : Triangle) → triangleNumber n s t ≡ 0 → sound n s ≡ true
-unfolding triangleNumber
-accepted-sound n s t e = screen-passed n s _ e .0 .is-sound
+accepted-sound n s t e = triangle-accepted n s t .0 e .1
 
 module _ {s : Screen} where
   pub accepted-drawn : {m after : List ℕ} {t : Triangle} {r : Drawn}

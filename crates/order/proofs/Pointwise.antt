@@ -19,7 +19,7 @@ use Rattle.rules.proofs.Memory.{same-memory, on-rows}
 use Rattle.rules.proofs.Drawing.{merged-cell, touched-drawn, touched-cleared}
 use Rattle.order.specs.Pointwise.{Reads, Elsewhere, Painted}
 
-outside : {s : Screen} {b : ℕ} → Elsewhere s b → Outside s b
+pub outside : {s : Screen} {b : ℕ} → Elsewhere s b → Outside s b
 outside e = record {
   no-colour = λ {x} {y} p. neither (e .no-colour x y (p .across) (p .down));
   no-depth = λ {x} {y} p. neither (e .no-depth x y (p .across) (p .down));
@@ -29,7 +29,7 @@ outside e = record {
     neither n (inl q) = n .0 q
     neither n (inr q) = n .1 q
 
-elsewhere : {s : Screen} {b : ℕ} → Outside s b → Elsewhere s b
+pub elsewhere : {s : Screen} {b : ℕ} → Outside s b → Elsewhere s b
 elsewhere o = record {
   no-colour = λ x y h v. let n = o .no-colour (record { across = h; down = v }) in (λ q. n (inl q), λ q. n (inr q));
   no-depth = λ x y h v. let n = o .no-depth (record { across = h; down = v }) in (λ q. n (inl q), λ q. n (inr q));
@@ -58,7 +58,7 @@ module _ (s : Screen) (picked : ℕ → ℕ → Bool) (colour depth : ℕ → �
   abbrev new : ℕ → ℕ → Bool → Cell
   new x y b = choose b (painted (colour x y) (depth x y)) (cell s m x y)
 
-  from-cells : (after : List ℕ) → length after ≡ length m
+  pub from-cells : (after : List ℕ) → length after ≡ length m
       → ((x y : ℕ) → On s x y → cell s after x y ≡ new x y (picked x y))
       → ((b : ℕ) → Outside s b → getD after b 0 ≡ getD m b 0)
       → Painted s picked colour depth m after
@@ -69,7 +69,7 @@ module _ (s : Screen) (picked : ℕ → ℕ → Bool) (colour depth : ℕ → �
     elsewhere = λ b e. o b (outside e);
   }
 
-  to-cells : {after : List ℕ}
+  pub to-cells : {after : List ℕ}
       → Painted s picked colour depth m after
       → (x y : ℕ)
       → On s x y

@@ -1,12 +1,11 @@
--- No second outcome meets a call's promise: the promise gives the number, the counts, the part and the memory as values of the inputs.
+-- No second outcome meets a call's promise: the promise gives the number, the counts and the memory as values of the inputs.
 use Prim.Native.Nat.{ℕ}
 use mathlib.Core.Path.{_≡_, sym, _∙_}
 use mathlib.Core.List.{List}
 use Rattle.rules.specs.declared.Screen.{Screen}
 use Rattle.rules.specs.declared.Triangle.{Triangle}
 use Rattle.rules.specs.declared.Drawn.{Drawn}
-use Rattle.rules.specs.Numbers.{rowNumber}
-use Rattle.rules.specs.Calls.{Clears, Draws, rowStart, rowLength}
+use Rattle.rules.specs.Calls.{Clears, Draws}
 
 pub clears-unique : {m k k′ : List ℕ} {s : Screen} {colour depth n n′ : ℕ}
     → Clears m s colour depth n k
@@ -26,16 +25,3 @@ draws-unique {r = r} {r′ = r′} p q = (same, p .leaves ∙ sym (q .leaves))
       covered = (p .covers ∙ sym (q .covers)) i;
       written = (p .writes ∙ sym (q .writes)) i;
     }
-
--- a row: its number, and where its part starts and how long it is
-module _ (ramLength : ℕ) (s : Screen) (row : ℕ) where
-  pub row-number-unique : {n n′ : ℕ} → n ≡ rowNumber ramLength s row → n′ ≡ rowNumber ramLength s row → n ≡ n′
-  row-number-unique p q = p ∙ sym q
-
-  pub row-part-unique : {a n a′ n′ : ℕ}
-      → a ≡ rowStart ramLength s row
-      → n ≡ rowLength ramLength s row
-      → a′ ≡ rowStart ramLength s row
-      → n′ ≡ rowLength ramLength s row
-      → (a ≡ a′) × (n ≡ n′)
-  row-part-unique p q p′ q′ = (p ∙ sym p′, q ∙ sym q′)

@@ -1,5 +1,5 @@
 -- Demand 3's words: "Both orders give the same memory exactly if, at each pixel that both cover, the depths differ, or both lie above
--- the depth stored before, or the colours are equal. Two triangles that run along a common edge .. in opposite directions".
+-- the depth stored before, or the colours are equal."
 use Prim.Native.Nat.{ℕ, _<_}
 use mathlib.Core.Path.{_≡_}
 use mathlib.Core.Logic.{_≢_, _⊎_}
@@ -9,7 +9,7 @@ use Rattle.rules.specs.declared.Screen.{Screen}
 use Rattle.rules.specs.declared.Triangle.{Triangle}
 use Rattle.ram.specs.Ram.{loadHalf}
 use Rattle.rules.specs.Sizes.{depthAt}
-use Rattle.rules.specs.Triangles.{Edge, edge1, edge2, edge3, covered, triangleColour, triangleDepth, drawn}
+use Rattle.rules.specs.Triangles.{covered, triangleColour, triangleDepth, drawn}
 
 abbrev pub SameInBothOrders : Triangle → Triangle → Screen → List ℕ → Type 0
 SameInBothOrders a b s m = drawn b s (drawn a s m) ≡ drawn a s (drawn b s m)
@@ -26,15 +26,3 @@ Compatible a b s m =
     → (triangleDepth a x y ≢ triangleDepth b x y)
     ⊎ ((storedDepth m s x y < triangleDepth a x y) × (storedDepth m s x y < triangleDepth b x y))
     ⊎ (triangleColour a x y ≡ triangleColour b x y)
-
-pub data Side : Type 0 where
-  first second third : Side
-
-abbrev pub side : Triangle → Side → Edge
-side t first = edge1 (t .vertices)
-side t second = edge2 (t .vertices)
-side t third = edge3 (t .vertices)
-
--- the same edge in the opposite direction
-abbrev pub turned : Edge → Edge
-turned e = record { x1 = e .x2; y1 = e .y2; x2 = e .x1; y2 = e .y1 }

@@ -44,4 +44,3 @@ module _ (m : List ℕ) (a v : ℕ) where
   byte-stored-far b (inr h) =
       byte-stored-other (storeHalf m a (v / 65536)) (a + 2) (v % 65536) b (λ e. omega arith) (λ e. omega arith)
       ∙ byte-stored-other m a (v / 65536) b (λ e. omega arith) (λ e. omega arith)
-

@@ -6,3 +6,5 @@ pub mod Rows
 pub mod Pixels
 pub mod Memory
 pub mod Drawing
+pub mod Closing
+pub mod Lists

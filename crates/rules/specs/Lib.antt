@@ -1,6 +1,8 @@
--- Document 01, section by section: Sizes, Triangles, Numbers, and what each call leaves (Calls). Turns has the plain recursions that they use.
+-- Document 01, section by section: Sizes, Triangles, Numbers, and what each call leaves (Calls). Turns has the plain recursions that they
+-- use, Lists the drawing of a list.
 pub mod Folds
 pub mod Sizes
 pub mod Triangles
 pub mod Numbers
 pub mod Calls
+pub mod Lists

@@ -1,11 +1,14 @@
--- No second outcome meets what the row reader promises: the bytes, the pointer and the located part are values of the inputs.
+-- No second outcome meets what the row reader promises: the number, the bytes, the pointer and the located part are values of the inputs.
 use Prim.Native.Nat.{ℕ}
 use mathlib.Core.Path.{_≡_, sym, _∙_}
 use mathlib.Core.List.{List}
 use denote.Ref.{RefT, now}
 use Rattle.rules.specs.declared.Screen.{Screen}
 use Rattle.screen.specs.declared.rows.RowPart.{RowPart}
-use Rattle.screen.specs.Rows.{HandsBack, Locates}
+use Rattle.screen.specs.Rows.{Checks, HandsBack, Locates}
+
+pub row-number-unique : {n row k l : ℕ} {s : Screen} → Checks n s row k → Checks n s row l → k ≡ l
+row-number-unique a b = a .answers ∙ sym (b .answers)
 
 pub locates-unique : {n row : ℕ} {s : Screen} {p q : RowPart} → Locates n s row p → Locates n s row q → p ≡ q
 locates-unique a b = λ i. record {

@@ -17,5 +17,5 @@ areasFit ramLength s bytes = leb (s .colour + bytes) ramLength && leb (s .depth 
 abbrev pub areasApart : Screen → ℕ → Bool
 areasApart s bytes = leb (s .colour + bytes) (s .depth) || leb (s .depth + bytes) (s .colour)
 
-abbrev pub pixelAt : ℕ → ℕ → ℕ → ℕ → ℕ
-pixelAt start size x y = start + (y * width size + x) * 2
+abbrev pub standsAt : ℕ → ℕ → ℕ → ℕ → ℕ
+standsAt start size x y = start + (y * width size + x) * 2

@@ -9,6 +9,10 @@ use Rattle.rules.specs.Numbers.{rowNumber}
 use Rattle.rules.specs.Calls.{rowStart, rowLength, rowBytes}
 use Rattle.screen.specs.declared.rows.RowPart.{RowPart}
 
+-- "a separate check answers 0, 3, 5 or 8 for the same inputs"
+pub record Checks (ramLength : ℕ) (s : Screen) (row : ℕ) (number : ℕ) : Type 0 where
+  pub answers : number ≡ rowNumber ramLength s row
+
 -- the number, and where the row's own bytes stand in RAM of that length
 pub record Locates (ramLength : ℕ) (s : Screen) (row : ℕ) (part : RowPart) : Type 0 where
   pub answers : part .number ≡ rowNumber ramLength s row

@@ -1,8 +1,6 @@
 ghost use Prim.Native.Nat.{_+_};
-ghost use mathlib.Core.Path.{_≡_};
 ghost use lib.ListN.{length};
-ghost use Rattle.rules.specs.Numbers.{rowNumber};
-ghost use Rattle.screen.specs.Rows.{HandsBack, Locates};
+ghost use Rattle.screen.specs.Rows.{Checks, HandsBack, Locates};
 use crate::sizes::colour_at;
 use crate::sizes::height;
 use crate::sizes::sound;
@@ -20,7 +18,7 @@ pub struct RowPart {
 
 // The tests first, then the numbers in their order: the lowest that applies wins.
 pub fn row_check(ram: &[u8], s: Screen, row: u32) -> u32
-    ensures { λ r. ⌜ r ≡ rowNumber (length (now (ram .entry))) s row ⌝ }
+    ensures { λ r. ⌜ Checks (length (now (ram .entry))) s row r ⌝ }
 {
     let long = too_long(ram.len());
     let whole = sound(ram.len(), s);

@@ -3,7 +3,7 @@ ghost use mathlib.Core.Bool.{_&&_};
 ghost use mathlib.Core.Path.{_≡_};
 ghost use Rattle.rules.specs.Numbers.{screenNumber, tooLong};
 ghost use Rattle.rules.specs.Sizes.{area, colourAt, depthAt, height, sizeInRange, sound, soundAreas, width};
-ghost use Rattle.screen.specs.Areas.{areasApart, areasFit, between, evenStarts, pixelAt};
+ghost use Rattle.screen.specs.Areas.{areasApart, areasFit, between, evenStarts, standsAt};
 use rules::Screen;
 
 pub fn width(size: u32) -> u32
@@ -103,8 +103,8 @@ pub fn screen_number(len: usize, s: Screen) -> u32
 }
 
 // Where pixel (x, y) stands in an area that starts at `start`. In 64 bits nothing wraps, on any screen.
-fn pixel_at(start: u32, size: u32, x: u32, y: u32) -> usize
-    ensures { λ r. ⌜ r ≡ pixelAt start size x y ⌝ }
+fn stands_at(start: u32, size: u32, x: u32, y: u32) -> usize
+    ensures { λ r. ⌜ r ≡ standsAt start size x y ⌝ }
 {
     start as usize + (y as usize * width(size) as usize + x as usize) * 2
 }
@@ -112,11 +112,11 @@ fn pixel_at(start: u32, size: u32, x: u32, y: u32) -> usize
 pub fn colour_at(s: Screen, x: u32, y: u32) -> usize
     ensures { λ r. ⌜ r ≡ colourAt s x y ⌝ }
 {
-    pixel_at(s.colour, s.size, x, y)
+    stands_at(s.colour, s.size, x, y)
 }
 
 pub fn depth_at(s: Screen, x: u32, y: u32) -> usize
     ensures { λ r. ⌜ r ≡ depthAt s x y ⌝ }
 {
-    pixel_at(s.depth, s.size, x, y)
+    stands_at(s.depth, s.size, x, y)
 }

@@ -1,8 +1,8 @@
 // The tree by value, and what its instructions make of it, leaf by leaf. A leaf's value is added up: no leaf needs a product.
 use instructions::Tree;
-use rules::Screen;
 use ram::load_half;
 use ram::store_half;
+use rules::Screen;
 use screen::sizes::colour_at;
 use screen::sizes::depth_at;
 use screen::sizes::height;

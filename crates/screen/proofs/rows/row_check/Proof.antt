@@ -29,24 +29,30 @@ height-requires : tie.Need-height-requires
 height-requires c κs = search needs
 
 returns : tie.Need-returns
-returns c = chosen _ 3 _ (c .if1 .taken) ∙ tested (c .before)
+returns c = record { answers = chosen _ 3 _ (c .if1 .taken) ∙ tested (c .before) }
 
 returns-2 : tie.Need-returns-2
-returns-2 c = chosen _ 5 _ (c .if2 .taken) ∙ other _ 3 _ (c .before .if1 .left) ∙ tested (c .before .before)
+returns-2 c = record {
+  answers = chosen _ 5 _ (c .if2 .taken) ∙ other _ 3 _ (c .before .if1 .left) ∙ tested (c .before .before);
+}
 
 returns-3 : tie.Need-returns-3
-returns-3 c =
-    other _ 8 0 (ap not (c .if3 .taken))
-    ∙ other _ 5 _ (c .before .if2 .left)
-    ∙ other _ 3 _ (c .before .before .if1 .left)
-    ∙ tested (c .before .before .before)
+returns-3 c = record {
+  answers =
+      other _ 8 0 (ap not (c .if3 .taken))
+      ∙ other _ 5 _ (c .before .if2 .left)
+      ∙ other _ 3 _ (c .before .before .if1 .left)
+      ∙ tested (c .before .before .before);
+}
 
 returns-4 : tie.Need-returns-4
-returns-4 c =
-    chosen _ 8 0 (ap not (c .if3 .left))
-    ∙ other _ 5 _ (c .before .if2 .left)
-    ∙ other _ 3 _ (c .before .before .if1 .left)
-    ∙ tested (c .before .before .before)
+returns-4 c = record {
+  answers =
+      chosen _ 8 0 (ap not (c .if3 .left))
+      ∙ other _ 5 _ (c .before .if2 .left)
+      ∙ other _ 3 _ (c .before .before .if1 .left)
+      ∙ tested (c .before .before .before);
+}
 
 pub row-check-spec : {M : Type 1} → statement M
 row-check-spec =

@@ -8,7 +8,7 @@ row-check-requires : tie.Need-row-check-requires
 row-check-requires c κs = search needs
 
 returns : tie.Need-returns
-returns c = refused _ _ _ _ (c .before .row-check .ensures) (c .if1 .taken)
+returns c = refused _ _ _ _ (c .before .row-check .ensures .answers) (c .if1 .taken)
 
 colour-at-requires : tie.Need-colour-at-requires
 colour-at-requires c κs = search needs
@@ -25,7 +25,7 @@ mul-t10 c = search needs
 returns-2 : tie.Need-returns-2
 returns-2 c =
     found _ _ _ _ _ _
-    (c .before .before .before .row-check .ensures)
+    (c .before .before .before .row-check .ensures .answers)
     (c .before .before .if1 .left)
     (c .before .colour-at .ensures)
     (c .width .ensures)

@@ -1,10 +1,10 @@
--- `sizes::pixel_at` is the definition's sum; its offset is below 2^60 at any size number and pixel. Assumes nothing.
+-- `sizes::stands_at` is the definition's sum; its offset is below 2^60 at any size number and pixel. Assumes nothing.
 use Prim.Native.Nat.{_+_, _*_, _^_, _<_}
 use native.Mathlib.Omega.{arith}
 use borrow.Author.Needs.{needs}
 use Rattle.screen.proofs.Bounds.{offset-small}
-use Rattle.screen.proofs.sizes.pixel_at.Statement.{statement}
-use Rattle.screen.proofs.sizes.pixel_at.Tie as tie
+use Rattle.screen.proofs.sizes.stands_at.Statement.{statement}
+use Rattle.screen.proofs.sizes.stands_at.Tie as tie
 
 offset : (c : tie.After-width) → c .before .args .y * c .width .result + c .before .args .x < 2 ^ 60
 offset c = rw (c .width .ensures) (offset-small (c .before .args .size) _ _ (omega arith) (omega arith) (omega arith))
@@ -30,7 +30,7 @@ add-result-2 c = omega (arith, offset c)
 returns : tie.Need-returns
 returns c = simp (c .width .ensures)
 
-pub pixel-at-spec : {M : Type 1} → statement M
-pixel-at-spec =
+pub stands-at-spec : {M : Type 1} → statement M
+stands-at-spec =
     tie.close
     (tie.spec width-requires cast-result mul-result add-result mul-result-2 add-result-2 returns)
