@@ -1,7 +1,7 @@
--- Laws of one edge along the pixels: its lowered value is an affine function of the pixel, stays within 32 bits, is not negative exactly inside,
--- and rises or falls along a row. Everything is said once over the edge.
-use Prim.Native.Nat.{ℕ, zero, suc, _+_, _*_, _-_, _≤_, _<_}
-use mathlib.Core.Path.{_≡_, refl, sym, _∙_, ap}
+-- Laws of one edge along the pixels: its lowered value is an affine function of the pixel, stays within 32 bits, is not negative exactly
+-- inside, and rises or falls along a row. Everything is said once over the edge.
+use Prim.Native.Nat.{ℕ, zero, suc, _+_, _≤_}
+use mathlib.Core.Path.{_≡_, refl}
 use mathlib.Core.List.{List, [], _∷_}
 use mathlib.Core.Bool.{Bool, true, false, _&&_, _||_}
 use native.Mathlib.Omega.{arith}
@@ -14,21 +14,21 @@ use Rattle.ints.proofs.Bounds.{Within, within-pos, within-lit, within-sub, with
 use Rattle.rules.specs.Folds.{choose}
 use Rattle.rules.specs.Triangles.{Edge, dx, dy, edgeValue, sampleOffset, sample, keepsZero, inside, positive, isZero}
 use Rattle.edges.proofs.Within.{EdgeWithin, value-within}
-use Rattle.cover.specs.Side.{loss, sided}
+use Rattle.cover.specs.Side.{loss, lowered, sided}
 
 -- inside is "not negative"
 
-lowered : (z : ℤ) (b : Bool) → (positive z || isZero z && b) ≡ nonNeg (z -ℤ choose b (pos 0) (pos 1))
-lowered (pos zero) true = refl
-lowered (pos zero) false = refl
-lowered (pos (suc n)) true = refl
-lowered (pos (suc n)) false = rw (le-ltb (suc n) 1 (omega arith))
-lowered (negsuc n) true = rw (lt-ltb 0 (suc n) (omega arith))
-lowered (negsuc n) false = refl
+not-negative : (z : ℤ) (b : Bool) → (positive z || isZero z && b) ≡ nonNeg (z -ℤ choose b (pos 0) (pos 1))
+not-negative (pos zero) true = refl
+not-negative (pos zero) false = refl
+not-negative (pos (suc n)) true = refl
+not-negative (pos (suc n)) false = rw (le-ltb (suc n) 1 (omega arith))
+not-negative (negsuc n) true = rw (lt-ltb 0 (suc n) (omega arith))
+not-negative (negsuc n) false = refl
 
 pub inside-sided : (e : Edge) (x y : ℕ) → inside e (sample x y) ≡ nonNeg (sided e x y)
-unfolding inside sided
-inside-sided e x y = lowered (edgeValue e (sample x y)) (keepsZero (dx e) (dy e))
+unfolding inside lowered
+inside-sided e x y = not-negative (edgeValue e (sample x y)) (keepsZero (dx e) (dy e))
 
 -- an affine function of the pixel
 
@@ -46,14 +46,14 @@ abbrev pub slope : Edge → ℤ
 slope e = pos 0 -ℤ pos 8 *ℤ dy e
 
 pub sided-right : (e : Edge) (x k y : ℕ) → sided e (x + k) y ≡ sided e x y +ℤ slope e *ℤ pos k
-unfolding sided sample edgeValue
+unfolding lowered sample edgeValue
 sided-right e x k y =
     solve (e .x1 ∷ e .y1 ∷ e .x2 ∷ e .y2 ∷ pos x ∷ pos y ∷ loss (dx e) (dy e) ∷ pos k ∷ [])
     (edgeE (sampleE (var 4 ⊕ var 7)) (sampleE (var 5)) ⊖ var 6)
     (edgeE (sampleE (var 4)) (sampleE (var 5)) ⊖ var 6 ⊕ slopeE ⊗ var 7) tt
 
 pub sided-down : (e : Edge) (x y : ℕ) → sided e x (y + 1) ≡ sided e x y +ℤ pos 8 *ℤ dx e
-unfolding sided sample edgeValue
+unfolding lowered sample edgeValue
 sided-down e x y =
     solve (e .x1 ∷ e .y1 ∷ e .x2 ∷ e .y2 ∷ pos x ∷ pos y ∷ loss (dx e) (dy e) ∷ [])
     (edgeE (sampleE (var 4)) (sampleE (var 5 ⊕ con (pos 1))) ⊖ var 6)
@@ -70,12 +70,12 @@ loss-within a b = go (keepsZero a b)
 
 module _ (e : Edge) (w : EdgeWithin e) where
   pub sided-within : (x y : ℕ) → x ≤ 640 → y ≤ 512 → Within 419659777 (sided e x y)
-  unfolding sided
+  unfolding lowered
   sided-within x y hx hy = within-sub (value-within e w x y hx hy) (loss-within (dx e) (dy e))
 
   -- of a level edge
   pub level-within : isZero (dy e) ≡ true → (x y : ℕ) → x ≤ 640 → y ≤ 512 → Within 201441281 (sided e x y)
-  unfolding sided edgeValue sample
+  unfolding lowered edgeValue sample
   level-within z x y hx hy =
       within-sub
       (within-sub

@@ -1,4 +1,4 @@
--- Laws of runs of columns: what lies in a run, before it and beyond it, and how many columns it has.
+-- Laws of spans of columns: what lies in a span, before it and beyond it, and how many columns it has.
 use Prim.Native.Nat.{ℕ, zero, suc, _+_, _-_, _≤_, _<_}
 use mathlib.Core.Path.{_≡_, refl, _∙_, ap}
 use mathlib.Core.Bool.{Bool, true, false, _&&_, and-false}

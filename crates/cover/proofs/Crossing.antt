@@ -1,5 +1,6 @@
--- In a row an edge turns at one column: `times` its rising value, and what columns add, keeps its sign, and the crossing says from which column on it is
--- not negative, since the roundings of all rows, times the step across, are less than a unit. A row down adds the same number everywhere. Said once over the edge.
+-- An edge crosses a row at one column: `times` its rising value, and what columns add, keeps its sign, and the crossing says from which
+-- column on it is not negative, since the roundings of all rows, times the step across, are less than a unit. A row down adds the same
+-- number everywhere. Said once over the edge.
 use Prim.Native.Nat.{ℕ, zero, suc, _+_, _*_, _-_, _≤_, _<_}
 use mathlib.Core.Path.{_≡_, refl, sym, _∙_, ap, subst}
 use mathlib.Core.List.{List, [], _∷_}
@@ -21,14 +22,15 @@ use Rattle.cover.specs.declared.Side.{Side}
 use Rattle.cover.specs.declared.Sides.{Sides}
 use Rattle.cover.specs.declared.Crossings.{Crossings}
 use Rattle.cover.specs.Units.{unit, raise, lift, Rounded}
-use Rattle.cover.specs.Side.{sided, rising, across, times, scale, down, SideOf, SidesOf, CrossingOf, CrossingsOf, Addable, CanGoBelow}
+use Rattle.cover.specs.Side.{sided, rising, across, times, scale, down}
+use Rattle.cover.specs.Side.{SideOf, SidesOf, CrossingOf, CrossingsOf, Addable, CanGoBelow}
 use Rattle.edges.proofs.Within.{EdgeWithin, edge-within, edges-in-range}
 use Rattle.cover.proofs.Along.{inside-sided, slope, sided-right, sided-down, sided-within, level-within}
 use Rattle.cover.proofs.Quotients.{rounded-crosses, rounded-sum, rounded-low, rounded-high}
 
 -- signs
 
--- a column of a screen does not turn 640 times a whole number
+-- no column of a screen changes the sign of 640 times a whole number
 scaled : (z : ℤ) (x : ℕ) → x < 640 → nonNeg (pos 640 *ℤ z +ℤ pos (1 * x)) ≡ nonNeg z
 scaled z x h = go (nonNeg z) refl
   where
@@ -141,12 +143,15 @@ module _ (e : Edge) (w : EdgeWithin e) (y : ℕ) (l : y ≤ 480) (m : ℕ) (h : 
       → inside e (sample x y) ≡ choose (positive (dy e)) (ltb (unit * x + m) raise) (leb raise (unit * x + m))
   crossing-inside x k = inside-sided e x y ∙ go (positive (dy e)) refl
     where
+      rises : (b : Bool) → positive (dy e) ≡ b → nonNeg (choose b (negsuc 0 -ℤ sided e x y) (sided e x y)) ≡ leb raise (unit * x + m)
+      rises b j =
+          subst (λ (s : Bool). nonNeg (choose s (negsuc 0 -ℤ sided e x y) (sided e x y)) ≡ leb raise (unit * x + m)) j (rises-at x k)
+
       go : (b : Bool) → positive (dy e) ≡ b → nonNeg (sided e x y) ≡ choose b (ltb (unit * x + m) raise) (leb raise (unit * x + m))
       go true j =
-          let r : nonNeg (negsuc 0 -ℤ sided e x y) ≡ leb raise (unit * x + m) =
-          subst (λ (b : Bool). nonNeg (choose b (negsuc 0 -ℤ sided e x y) (sided e x y)) ≡ leb raise (unit * x + m)) j (rises-at x k) in
+          let r : nonNeg (negsuc 0 -ℤ sided e x y) ≡ leb raise (unit * x + m) = rises true j in
           sym (Bool·not-not (nonNeg (sided e x y))) ∙ ap not (sym (opposed (sided e x y)) ∙ r) ∙ not-leb raise (unit * x + m)
-      go false j = subst (λ (b : Bool). nonNeg (choose b (negsuc 0 -ℤ sided e x y) (sided e x y)) ≡ leb raise (unit * x + m)) j (rises-at x k)
+      go false j = rises false j
 
 -- a row down
 pub crossing-below : (e : Edge) (y : ℕ) (d : Side) (m : ℕ) → SideOf e d → CrossingOf e y m → Addable m (d .down)
@@ -211,7 +216,9 @@ can-go-below e w y h d m o k =
       high = omega (arith, rounded-high k 8700000000000000000 v s, rounded-high (o .is-down) 5629499534213120 u s);
     }
 
-pub crossings-can-go-below : (t : Vertices) → verticesInRange t ≡ true → (y : ℕ) → y ≤ 512 → (d : Sides) (m : Crossings) → SidesOf t d → CrossingsOf t y m
+pub crossings-can-go-below : (t : Vertices) → verticesInRange t ≡ true → (y : ℕ) → y ≤ 512 → (d : Sides) (m : Crossings)
+    → SidesOf t d
+    → CrossingsOf t y m
     → CanGoBelow m d
 crossings-can-go-below t r y h d m o k =
     let e = edges-in-range t r in

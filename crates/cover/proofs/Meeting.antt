@@ -1,4 +1,5 @@
--- The three edges' insides meet in one run: it begins at the last crossing where an inside begins and ends at the first one where an inside ends.
+-- The three edges' insides meet in one span: it begins at the last crossing where an inside begins and ends at the first one where an
+-- inside ends.
 use Prim.Native.Nat.{ℕ, _+_, _*_, _-_, _≤_, _<_}
 use mathlib.Core.Path.{_≡_, refl, sym, _∙_, ap, ap₂}
 use mathlib.Core.Bool.{Bool, true, false, not, _&&_, _||_, and-comm}
@@ -21,56 +22,44 @@ use Rattle.cover.proofs.Columns.{span-beyond}
 
 -- of two crossings
 
-lesser : (r a b : ℕ) → a ≤ b → leb r a ≡ leb r a && leb r b
-lesser r a b h = go (leb r a) refl
-  where
-    go : (u : Bool) → leb r a ≡ u → u ≡ u && leb r b
-    go true e = sym (le-leb r b (omega (arith, leb-true r a e)))
-    go false e = refl
+chosen : (P : ℕ → Type 0) (u : Bool) (m n : ℕ) → (u ≡ true → P m) → (u ≡ false → P n) → P (choose u m n)
+chosen P true m n f g = f refl
+chosen P false m n f g = g refl
 
-greater : (r a b : ℕ) → b ≤ a → ltb a r ≡ ltb a r && ltb b r
-greater r a b h = go (ltb a r) refl
-  where
-    go : (u : Bool) → ltb a r ≡ u → u ≡ u && ltb b r
-    go true e = sym (lt-ltb b r (omega (arith, ltb-true a r e)))
-    go false e = refl
+stronger : (p q : Bool) → (p ≡ true → q ≡ true) → p ≡ p && q
+stronger true q h = sym (h refl)
+stronger false q h = refl
+
+-- of two numbers, the one whose test is the stronger
+both : (P : ℕ → Bool) (u : Bool) (m n : ℕ) → (u ≡ true → P m ≡ true → P n ≡ true) → (u ≡ false → P n ≡ true → P m ≡ true)
+    → P (choose u m n) ≡ P m && P n
+both P u m n f g =
+    chosen (λ (k : ℕ). P k ≡ P m && P n) u m n
+    (λ t. stronger (P m) (P n) (f t))
+    (λ t. stronger (P n) (P m) (g t) ∙ and-comm (P n) (P m))
 
 module _ (x m : ℕ) where
   begin-at : (e : Bool) (l : ℕ) → leb raise (x + begin m e l) ≡ (e || leb raise (x + m)) && leb raise (x + l)
   begin-at true l = refl
-  begin-at false l = go (ltb m l) refl
-    where
-      go : (u : Bool) → ltb m l ≡ u → leb raise (x + choose u m l) ≡ leb raise (x + m) && leb raise (x + l)
-      go true h = lesser raise (x + m) (x + l) (omega (arith, ltb-true m l h))
-      go false h =
-          lesser raise (x + l) (x + m) (omega (arith, ltb-false m l h))
-          ∙ and-comm (leb raise (x + l)) (leb raise (x + m))
+  begin-at false l =
+      both (λ (k : ℕ). leb raise (x + k)) (ltb m l) m l
+      (λ t h. le-leb raise (x + l) (omega (arith, ltb-true m l t, leb-true raise (x + m) h)))
+      (λ t h. le-leb raise (x + m) (omega (arith, ltb-false m l t, leb-true raise (x + l) h)))
 
   end-at : (e : Bool) (g : ℕ) → ltb (x + end m e g) raise ≡ (not e || ltb (x + m) raise) && ltb (x + g) raise
   end-at false g = refl
-  end-at true g = go (ltb g m) refl
-    where
-      go : (u : Bool) → ltb g m ≡ u → ltb (x + choose u m g) raise ≡ ltb (x + m) raise && ltb (x + g) raise
-      go true h = greater raise (x + m) (x + g) (omega (arith, ltb-true g m h))
-      go false h =
-          greater raise (x + g) (x + m) (omega (arith, ltb-false g m h))
-          ∙ and-comm (ltb (x + g) raise) (ltb (x + m) raise)
+  end-at true g =
+      both (λ (k : ℕ). ltb (x + k) raise) (ltb g m) m g
+      (λ t h. lt-ltb (x + g) raise (omega (arith, ltb-true g m t, ltb-true (x + m) raise h)))
+      (λ t h. lt-ltb (x + m) raise (omega (arith, ltb-false g m t, ltb-true (x + g) raise h)))
 
 begin-le : (m : ℕ) (e : Bool) (l : ℕ) → begin m e l ≤ l
 begin-le m true l = omega arith
-begin-le m false l = go (ltb m l) refl
-  where
-    go : (u : Bool) → ltb m l ≡ u → choose u m l ≤ l
-    go true h = omega (arith, ltb-true m l h)
-    go false h = omega arith
+begin-le m false l = chosen (λ (k : ℕ). k ≤ l) (ltb m l) m l (λ t. omega (arith, ltb-true m l t)) (λ t. omega arith)
 
 end-ge : (m : ℕ) (e : Bool) (g : ℕ) → g ≤ end m e g
 end-ge m false g = omega arith
-end-ge m true g = go (ltb g m) refl
-  where
-    go : (u : Bool) → ltb g m ≡ u → g ≤ choose u m g
-    go true h = omega (arith, ltb-true g m h)
-    go false h = omega arith
+end-ge m true g = chosen (λ (k : ℕ). g ≤ k) (ltb g m) m g (λ t. omega (arith, ltb-true g m t)) (λ t. omega arith)
 
 -- of the three edges
 
@@ -118,7 +107,8 @@ sorted true true true false true b₃ = refl
 sorted true true true true true true = refl
 sorted true true true true true false = refl
 
-module _ (t : Vertices) (y : ℕ) (v : verticesInRange t ≡ true) (i : y ≤ 480) (d : Sides) (m : Crossings) (o : SidesOf t d) (h : CrossingsOf t y m) (w : ℕ) (k : w ≤ 640) where
+module _ (t : Vertices) (y : ℕ) (v : verticesInRange t ≡ true) (i : y ≤ 480)
+    (d : Sides) (m : Crossings) (o : SidesOf t d) (h : CrossingsOf t y m) (w : ℕ) (k : w ≤ 640) where
   all-inside : (x : ℕ) → x < w → insideAll t (sample x y) ≡ leb raise (unit * x + leastOf m d) && ltb (unit * x + mostOf m d w) raise
   unfolding insideAll
   all-inside x l =
@@ -130,7 +120,9 @@ module _ (t : Vertices) (y : ℕ) (v : verticesInRange t ≡ true) (i : y ≤ 48
       let first : leb raise (unit * x + raise) ≡ true = le-leb raise (unit * x + raise) (omega arith) in
       let last : ltb (unit * x + (raise - unit * w)) raise ≡ true = lt-ltb (unit * x + (raise - unit * w)) raise (omega arith) in
       ap₂ _&&_
-      (ap₂ _&&_ (edge-asks (edge1 t) (edge-within (edge1 t) (r .0)) (d .p) y (m .p) i (o .of1) (h .of1) x n) (edge-asks (edge2 t) (edge-within (edge2 t) (r .1)) (d .q) y (m .q) i (o .of2) (h .of2) x n))
+      (ap₂ _&&_
+      (edge-asks (edge1 t) (edge-within (edge1 t) (r .0)) (d .p) y (m .p) i (o .of1) (h .of1) x n)
+      (edge-asks (edge2 t) (edge-within (edge2 t) (r .1)) (d .q) y (m .q) i (o .of2) (h .of2) x n))
       (edge-asks (edge3 t) (edge-within (edge3 t) (r .2)) (d .r) y (m .r) i (o .of3) (h .of3) x n)
       ∙ sorted (d .p .ends || leb raise (unit * x + m .p)) (not (d .p .ends) || ltb (unit * x + m .p) raise)
       (d .q .ends || leb raise (unit * x + m .q)) (not (d .q .ends) || ltb (unit * x + m .q) raise)
@@ -167,7 +159,9 @@ module _ (t : Vertices) (y : ℕ) (v : verticesInRange t ≡ true) (i : y ≤ 48
       record {
         ordered = omega arith;
         limited = omega (arith, most-ge m d w);
-        run = λ x h. all-inside x h ∙ ap₂ _&&_ (from x (leb raise (unit * x + leastOf m d)) refl) (to x (ltb (unit * x + mostOf m d w) raise) refl);
+        run = λ x h.
+            all-inside x h
+            ∙ ap₂ _&&_ (from x (leb raise (unit * x + leastOf m d)) refl) (to x (ltb (unit * x + mostOf m d w) raise) refl);
       }
     where
       from : (x : ℕ) (u : Bool) → leb raise (unit * x + leastOf m d) ≡ u → u ≡ leb (column (leastOf m d)) x

@@ -1,17 +1,19 @@
--- Laws of quotients rounded up: division gives one of either sign, two add up with their roundings, one whose roundings times the divisor are less than
--- a unit says where a multiple of the unit turns, and each is near what it is raised by.
+-- Laws of quotients rounded up: division gives one of either sign, two add up with their roundings, one whose roundings times the
+-- divisor are less than a unit says where a multiple of the unit crosses 0, and each is near what it is raised by.
 use Prim.Native.Nat.{ℕ, _+_, _*_, _-_, _/_, _%_, _≤_, _<_}
 use mathlib.Core.Path.{_≡_, refl, sym, _∙_, ap, subst}
 use mathlib.Core.List.{[], _∷_}
 use mathlib.Core.Bool.{Bool, true, false}
-use native.Mathlib.Nat.{mul-add, mul-one, mul-left-comm, mul-le-mul-left, mul-le-mul-right, le-of-mul-le-mul-left, lt-of-mul-lt-mul-left, mod-lt, div-le-self, div-add-mod}
+use native.Mathlib.Nat.{mul-add, mul-one, mul-left-comm, mod-lt, div-le-self, div-add-mod}
+use native.Mathlib.Nat.{mul-le-mul-left, mul-le-mul-right, le-of-mul-le-mul-left, lt-of-mul-lt-mul-left}
 use native.Mathlib.Omega.{arith}
 use lib.Dec.{leb}
 use lib.IntN.{ℤ, pos, negsuc, _+ℤ_, _-ℤ_, _*ℤ_}
 use lib.Signed.{nonNeg}
 use borrow.Author.Tests.{le-leb, lt-leb}
 use Rattle.ints.proofs.Poly.{var, con, _⊖_, solve}
-use Rattle.ints.proofs.Order.{Is, is-pos, is-negsuc, is-neg, is-self, is-add, is-sub, is-times, is-same, is-nat, le-is, lt-is, up, dn, nonNeg-true, nonNeg-false}
+use Rattle.ints.proofs.Order.{Is, is-pos, is-negsuc, is-neg, is-self, is-add, is-sub, is-times, is-same, is-nat}
+use Rattle.ints.proofs.Order.{le-is, lt-is, up, dn, nonNeg-true, nonNeg-false}
 use Rattle.ints.proofs.Bounds.{Within, within-lo, within-hi}
 use Rattle.cover.specs.Units.{unit, Rounded}
 
@@ -33,7 +35,8 @@ module _ (n a r : ℕ) (h : 0 < a) where
 
   pub rounded-back : {z : ℤ} → pos n ≡ negsuc 0 -ℤ z → n ≤ r → Rounded z a r 1 (r - n / a)
   rounded-back {z} e l =
-      let back : z ≡ negsuc 0 -ℤ pos n = solve (z ∷ []) (var 0) (con (negsuc 0) ⊖ (con (negsuc 0) ⊖ var 0)) tt ∙ ap (λ (y : ℤ). negsuc 0 -ℤ y) (sym e) in
+      let twice : z ≡ negsuc 0 -ℤ (negsuc 0 -ℤ z) = solve (z ∷ []) (var 0) (con (negsuc 0) ⊖ (con (negsuc 0) ⊖ var 0)) tt in
+      let back : z ≡ negsuc 0 -ℤ pos n = twice ∙ ap (λ (y : ℤ). negsuc 0 -ℤ y) (sym e) in
       let m = r - n / a in
       let sum : m + n / a ≡ r = omega (arith, div-le-self n a) in
       let times : a * (m + n / a) ≡ a * r = ap (λ (i : ℕ). a * i) sum in
@@ -54,7 +57,8 @@ module _ {z : ℤ} {a r k m : ℕ} (h : Rounded z a r k m) where
   pub rounded-more : (j : ℕ) → k ≤ j → Rounded z a r j m
   rounded-more j l = record { over = h .over; few = omega (arith, h .few, mul-le-mul-left a l); whole = h .whole }
 
-  -- where z is u units and the roundings times a are less than one: u turns where the column's parts and the quotient reach what it is raised by
+  -- where z is u units and the roundings times a are less than one: u crosses 0 where the column's ticks and the quotient reach what it
+  -- is raised by
   pub rounded-crosses : (u : ℤ) → z ≡ pos unit *ℤ u → a * k < unit → 1 ≤ a → (x : ℕ)
       → nonNeg (u +ℤ pos (a * x)) ≡ leb r (unit * x + m)
   rounded-crosses u e less some x = go (nonNeg (u +ℤ pos (a * x))) refl
@@ -68,16 +72,16 @@ module _ {z : ℤ} {a r k m : ℕ} (h : Rounded z a r k m) where
       same : a * m + unit * dn u ≡ unit * up u + (a * r + h .over)
       same = is-nat is (subst (λ (y : ℤ). Is y (unit * up u) (unit * dn u)) (sym e) (is-times unit i))
 
-      parts : a * (unit * x + m) ≡ unit * (a * x) + a * m
-      parts = mul-add a (unit * x) m ∙ ap (λ (j : ℕ). j + a * m) (mul-left-comm a unit x)
+      ticks : a * (unit * x + m) ≡ unit * (a * x) + a * m
+      ticks = mul-add a (unit * x) m ∙ ap (λ (j : ℕ). j + a * m) (mul-left-comm a unit x)
 
       go : (b : Bool) → nonNeg (u +ℤ pos (a * x)) ≡ b → b ≡ leb r (unit * x + m)
       go true n =
           let l : 0 + (dn u + 0) ≤ up u + a * x + 0 = le-is (is-pos 0) at (nonNeg-true (u +ℤ pos (a * x)) n) in
-          sym (le-leb r (unit * x + m) (le-of-mul-le-mul-left {k = a} (omega (arith, parts, same)) some))
+          sym (le-leb r (unit * x + m) (le-of-mul-le-mul-left {k = a} (omega (arith, ticks, same)) some))
       go false n =
           let l : up u + a * x + 0 < 0 + (dn u + 0) = lt-is at (is-pos 0) (nonNeg-false (u +ℤ pos (a * x)) n) in
-          sym (lt-leb r (unit * x + m) (lt-of-mul-lt-mul-left a (omega (arith, parts, same, less, h .few))))
+          sym (lt-leb r (unit * x + m) (lt-of-mul-lt-mul-left a (omega (arith, ticks, same, less, h .few))))
 
   -- of a number within n
   module _ (n : ℕ) (w : Within n z) (some : 1 ≤ a) where
@@ -97,7 +101,8 @@ module _ {z : ℤ} {a r k m : ℕ} (h : Rounded z a r k m) where
         some
 
 -- a sum of two has the roundings of both
-pub rounded-sum : {z y : ℤ} {a r s k j m n : ℕ} → Rounded z a r k m → Rounded y a s j n → s ≤ m + n → Rounded (z +ℤ y) a r (k + j) (m + n - s)
+pub rounded-sum : {z y : ℤ} {a r s k j m n : ℕ} → Rounded z a r k m → Rounded y a s j n → s ≤ m + n
+    → Rounded (z +ℤ y) a r (k + j) (m + n - s)
 rounded-sum {z} {y} {a} {r} {s} {k} {j} {m} {n} g h l =
     let sum : m + n - s + s ≡ m + n = omega arith in
     let whole : a * (m + n - s + s) ≡ a * (m + n) = ap (λ (i : ℕ). a * i) sum in

@@ -72,7 +72,10 @@ above-zero z f h = positive-only z (read-above z f h) .1
 pub below-zero : (z : ℤ) → SFits w64 z → ltZ (toZ w64 (ofZ w64 z)) (pos 0) ≡ true → isZero z ≡ false
 below-zero z f h = negative-only z (read-below z f h) .1
 
-pub neither-zero : (z : ℤ) → SFits w64 z → ltZ (pos 0) (toZ w64 (ofZ w64 z)) ≡ false → ltZ (toZ w64 (ofZ w64 z)) (pos 0) ≡ false → isZero z ≡ true
+pub neither-zero : (z : ℤ) → SFits w64 z
+    → ltZ (pos 0) (toZ w64 (ofZ w64 z)) ≡ false
+    → ltZ (toZ w64 (ofZ w64 z)) (pos 0) ≡ false
+    → isZero z ≡ true
 neither-zero z f h k = neither z (read-above z f h) (read-below z f k)
 
 -- what `in_ticks` makes of a number and of dy, as it reads both

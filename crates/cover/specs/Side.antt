@@ -1,9 +1,8 @@
--- What a side and a crossing hold. The value of an edge, less 1 where its zeros are outside, is taken with the sign that makes it rise along a row. In a
--- row it turns at one column: its value, divided by what a column adds, says which. A level edge does not turn: 640 times its value, with 1 added at
--- each column, keeps its sign in every column of a screen.
+-- What a side and a crossing hold. The value of an edge, less 1 where its zeros are outside, is taken with the sign that makes it rise
+-- along a row. An edge crosses a row at one column, where its inside begins or ends: its value, divided by what a column adds, says
+-- which. A level edge crosses no row: 640 times its value, with 1 added at each column, keeps its sign in every column of a screen.
 use Prim.Native.Nat.{ℕ, _+_, _*_, _≤_, _<_}
 use mathlib.Core.Path.{_≡_}
-use mathlib.Core.Bool.{Bool, _||_, _&&_}
 use lib.IntN.{ℤ, pos, negsuc, natAbs, _-ℤ_, _*ℤ_}
 use Rattle.rules.specs.declared.Vertices.{Vertices}
 use Rattle.rules.specs.Folds.{choose}
@@ -17,13 +16,20 @@ use Rattle.cover.specs.Units.{unit, raise, lift, Rounded}
 abbrev pub loss : ℤ → ℤ → ℤ
 loss dx dy = choose (keepsZero dx dy) (pos 0) (pos 1)
 
--- the edge value, lowered so that a pixel is inside where it is not negative
-unfoldable pub sided : Edge → ℕ → ℕ → ℤ
-sided e x y = edgeValue e (sample x y) -ℤ loss (dx e) (dy e)
+-- an edge's value v, lowered so that a pixel is inside where it is not negative
+unfoldable pub lowered : ℤ → ℤ → ℤ → ℤ
+lowered v dx dy = v -ℤ loss dx dy
 
--- where it falls to the right, the sign is turned: then it is not negative outside
+-- where it falls to the right it is taken with the other sign: then it is not negative outside
+abbrev pub risingValue : ℤ → ℤ → ℤ → ℤ
+risingValue v dx dy = choose (positive dy) (negsuc 0 -ℤ lowered v dx dy) (lowered v dx dy)
+
+-- both, of an edge at pixel (x, y)
+abbrev pub sided : Edge → ℕ → ℕ → ℤ
+sided e x y = lowered (edgeValue e (sample x y)) (dx e) (dy e)
+
 abbrev pub rising : Edge → ℕ → ℕ → ℤ
-rising e x y = choose (positive (dy e)) (negsuc 0 -ℤ sided e x y) (sided e x y)
+rising e x y = risingValue (edgeValue e (sample x y)) (dx e) (dy e)
 
 -- what a column adds, and how many times the value is taken: a level edge's 640 times, so that a column may add 1
 abbrev pub across : ℤ → ℕ
@@ -49,7 +55,7 @@ pub record SidesOf (v : Vertices) (d : Sides) : Type 0 where
   pub of2 : SideOf (edge2 v) (d .q)
   pub of3 : SideOf (edge3 v) (d .r)
 
--- how far before column 0 the edge turns in row y; a rounding for each row so far
+-- how far before column 0 the edge crosses row y; a rounding for each row so far
 abbrev pub CrossingOf : Edge → ℕ → ℕ → Type 0
 CrossingOf e y m = Rounded (scale (dy e) *ℤ rising e 0 y) (across (dy e)) raise (y + 1) m
 

@@ -1,4 +1,4 @@
--- Runs of columns, and which one is a row's.
+-- Spans of columns, and which one is a row's.
 use Prim.Native.Nat.{ℕ, _+_, _-_, _/_, _≤_, _<_}
 use mathlib.Core.Path.{_≡_}
 use mathlib.Core.Bool.{Bool, _&&_}

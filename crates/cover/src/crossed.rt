@@ -5,6 +5,7 @@ use crate::setup::rising_value;
 use crate::ticks::in_ticks;
 use crate::units::LIFT;
 use crate::units::RAISE;
+use edges::values::edge_value;
 use rules::Vertices;
 ghost use mathlib.Core.Path.{_≡_};
 ghost use mathlib.Core.Bool.{true};
@@ -19,8 +20,10 @@ fn crossing(x1: i32, y1: i32, x2: i32, y2: i32, y: u32) -> u64
     requires { ⌜ (edgeInRange (edgeFrom x1 y1 x2 y2) ≡ true) × (y ≤ 512) ⌝ }
     ensures { λ r. ⌜ CrossingOf (edgeFrom x1 y1 x2 y2) y r ⌝ }
 {
+    let dx = x2 as i64 - x1 as i64;
     let dy = y2 as i64 - y1 as i64;
-    in_ticks(rising_value(x1, y1, x2, y2, y), dy, RAISE)
+    let v = edge_value(x1, y1, x2, y2, 0, y);
+    in_ticks(rising_value(v, dx, dy), dy, RAISE)
 }
 
 // The crossings in row y.

@@ -20,7 +20,7 @@ pub struct Sides {
     pub r: Side,
 }
 
-// How far before column 0 each edge turns in a row, in ticks of a column, rounded up and raised by RAISE.
+// How far before column 0 each edge crosses a row, in ticks of a column, rounded up and raised by RAISE.
 pub struct Crossings {
     pub p: u64,
     pub q: u64,

@@ -3,7 +3,6 @@ use crate::Side;
 use crate::Sides;
 use crate::ticks::in_ticks;
 use crate::units::LIFT;
-use edges::values::edge_value;
 use rules::Vertices;
 ghost use mathlib.Core.Path.{_≡_};
 ghost use mathlib.Core.Bool.{true};
@@ -11,7 +10,7 @@ ghost use Prim.Native.Nat.{_≤_};
 ghost use lib.IntN.{natAbs};
 ghost use Rattle.rules.specs.Numbers.{verticesInRange};
 ghost use Rattle.edges.specs.Edges.{edgeFrom, edgeInRange};
-ghost use Rattle.cover.specs.Side.{loss, rising, down, SideOf, SidesOf};
+ghost use Rattle.cover.specs.Side.{loss, risingValue, down, SideOf, SidesOf};
 
 // What an edge's value loses where its zeros are outside.
 fn loss(dx: i64, dy: i64) -> i64
@@ -29,18 +28,16 @@ fn loss(dx: i64, dy: i64) -> i64
     1
 }
 
-// The lowered value at pixel (0, y), with the sign that makes it rise along the row.
-pub fn rising_value(x1: i32, y1: i32, x2: i32, y2: i32, y: u32) -> i64
-    requires { ⌜ (edgeInRange (edgeFrom x1 y1 x2 y2) ≡ true) × (y ≤ 512) ⌝ }
-    ensures { λ r. ⌜ r ≡ rising (edgeFrom x1 y1 x2 y2) 0 y ⌝ }
+// An edge's value v, lowered, with the sign that makes it rise along a row.
+pub fn rising_value(v: i64, dx: i64, dy: i64) -> i64
+    requires { ⌜ natAbs v ≤ 419659776 ⌝ }
+    ensures { λ r. ⌜ r ≡ risingValue v dx dy ⌝ }
 {
-    let dx = x2 as i64 - x1 as i64;
-    let dy = y2 as i64 - y1 as i64;
-    let v = edge_value(x1, y1, x2, y2, 0, y) - loss(dx, dy);
+    let lowered = v - loss(dx, dy);
     if 0 < dy {
-        return -1 - v;
+        return -1 - lowered;
     }
-    v
+    lowered
 }
 
 // What one row adds to the rising value.

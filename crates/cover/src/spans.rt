@@ -1,4 +1,4 @@
-// The run of a row's pixels that are inside.
+// The span of a row's pixels that are inside.
 use crate::Crossings;
 use crate::Sides;
 use crate::Span;
@@ -47,7 +47,7 @@ fn column(crossing: u64) -> u32
     ((RAISE - crossing + (UNIT - 1)) / UNIT) as u32
 }
 
-// The run among the first w columns: the inside begins where the last edge begins it, and ends where the first one ends it.
+// The span among the first w columns: the inside begins where the last edge begins it, and ends where the first one ends it.
 pub fn row_span(m: Crossings, d: Sides, w: u32) -> Span
     requires { ⌜ w ≤ 640 ⌝ }
     ensures { λ r. ⌜ ((v : Vertices) (y : ℕ) → verticesInRange v ≡ true → y ≤ 480 → SidesOf v d → CrossingsOf v y m → RowSpan v y w r) ⌝ }

@@ -9,7 +9,7 @@ ghost use Rattle.cover.specs.Side.{across, scale};
 // UNIT as a signed number.
 const SCALE: i64 = 67108864;
 
-// 640 times that: the parts of all columns.
+// 640 times that: the ticks of all columns.
 const LEVEL_SCALE: i64 = 42949672960;
 
 // What one column adds to the rising value, and 1 where that is nothing.

@@ -6,7 +6,7 @@ ghost use Rattle.rules.specs.Folds.{choose};
 ghost use Rattle.rules.specs.Triangles.{negative};
 ghost use Rattle.cover.specs.Units.{Raisable, Rounded};
 
-// A column, in ticks: more than a step across times the rows of a screen, so that a rounding in each row turns no pixel.
+// A column, in ticks: more than a step across times the rows of a screen, so that a rounding in each row misjudges no pixel.
 pub const UNIT: u64 = 67108864;
 
 // What a crossing is raised by, so that none is negative.

@@ -54,7 +54,9 @@ triangle-never-too-large t r w h hw hh =
     (λ x y a b.
     let hx : x ≤ 640 = omega arith in
     let hy : y ≤ 512 = omega arith in
-    neither (neither (never-too-large (edge1 t) r1 x y hx hy) (never-too-large (edge2 t) r2 x y hx hy)) (never-too-large (edge3 t) r3 x y hx hy)))
+    neither
+    (neither (never-too-large (edge1 t) r1 x y hx hy) (never-too-large (edge2 t) r2 x y hx hy))
+    (never-too-large (edge3 t) r3 x y hx hy)))
 
 -- what a caller learns, of an edge that the callee reads from the machine's words
 

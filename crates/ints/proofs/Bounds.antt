@@ -1,4 +1,5 @@
--- Bounds: `Within n z` says that z lies from -n to n. Bounds add under sum and difference and multiply under product, so the bound of an expression is computed beside it; below 2^31 or 2^63 it gives the machine's range.
+-- Bounds: `Within n z` says that z lies from -n to n. Bounds add under sum and difference and multiply under product, so the bound of an
+-- expression is computed beside it; below 2^31 or 2^63 it gives the machine's range.
 use mathlib.Core.Path.{_≡_, refl}
 use mathlib.Core.List.{List, [], _∷_}
 use Prim.Native.Nat.{ℕ, zero, suc, _+_, _*_, _/_, _^_, _≤_, _<_, suc-le-suc}
@@ -25,15 +26,15 @@ within-pos h = record { within = h }
 pub within-le : {n m : ℕ} {z : ℤ} → n ≤ m → Within n z → Within m z
 within-le {z = z} h k = record { within = omega (arith, k .within) }
 
-abs-parts : (z : ℤ) → natAbs z ≡ up z + dn z
-abs-parts (pos n) = omega arith
-abs-parts (negsuc n) = omega arith
+abs-sum : (z : ℤ) → natAbs z ≡ up z + dn z
+abs-sum (pos n) = omega arith
+abs-sum (negsuc n) = omega arith
 
 pub within-hi : {n : ℕ} {z : ℤ} → Within n z → z ≤ℤ pos n
-within-hi {n} {z} h = le-of (z ∷ pos n ∷ []) (var 0) (var 1) (omega (arith, abs-parts z, h .within))
+within-hi {n} {z} h = le-of (z ∷ pos n ∷ []) (var 0) (var 1) (omega (arith, abs-sum z, h .within))
 
 pub within-lo : {n : ℕ} {z : ℤ} → Within n z → negℤ (pos n) ≤ℤ z
-within-lo {n} {z} h = le-of (z ∷ pos n ∷ []) (neg (var 1)) (var 0) (omega (arith, abs-parts z, h .within))
+within-lo {n} {z} h = le-of (z ∷ pos n ∷ []) (neg (var 1)) (var 0) (omega (arith, abs-sum z, h .within))
 
 within-of : {n : ℕ} (z : ℤ) → negℤ (pos n) ≤ℤ z → z ≤ℤ pos n → Within n z
 within-of {n} (pos k) l h = record { within = omega (arith, le-to (pos k ∷ pos n ∷ []) (var 0) (var 1) h) }
@@ -65,7 +66,8 @@ module _ {n m : ℕ} {z y : ℤ} (h : Within n z) (k : Within m y) where
   within-add =
       let ρ : List ℤ = z ∷ y ∷ pos n ∷ pos m ∷ [] in
       within-of (z +ℤ y)
-      (le-of ρ (neg (var 2 ⊕ var 3)) (var 0 ⊕ var 1) (omega (arith, le-to ρ (neg (var 2)) (var 0) (within-lo h), le-to ρ (neg (var 3)) (var 1) (within-lo k))))
+      (le-of ρ (neg (var 2 ⊕ var 3)) (var 0 ⊕ var 1)
+      (omega (arith, le-to ρ (neg (var 2)) (var 0) (within-lo h), le-to ρ (neg (var 3)) (var 1) (within-lo k))))
       (+ℤ-mono (within-hi h) (within-hi k))
 
   pub within-mul : Within (n * m) (z *ℤ y)
@@ -114,9 +116,3 @@ fits-64 h l = sfits-of (within-63 h l)
 -- what the machine holds lies in its range
 pub within-fits : {w : Width} {z : ℤ} → SFits w z → Within (2 ^ hbits w) z
 within-fits {z = z} f = record { within = natAbs-le z (f .sfits) }
-
--- example: an edge's value at a sample point
-edge-within : (x1 y1 x2 y2 px py : ℤ) → Within 8192 x1 → Within 8192 y1 → Within 8192 x2 → Within 8192 y2 → Within 5112 px → Within 5112 py
-    → Within 435945472 ((py -ℤ y1) *ℤ (x2 -ℤ x1) -ℤ (px -ℤ x1) *ℤ (y2 -ℤ y1))
-edge-within x1 y1 x2 y2 px py hx1 hy1 hx2 hy2 hx hy =
-    within-sub (within-mul (within-sub hy hy1) (within-sub hx2 hx1)) (within-mul (within-sub hx hx1) (within-sub hy2 hy1))

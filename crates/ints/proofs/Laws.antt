@@ -1,8 +1,10 @@
--- The ring laws of ℤ that lib.IntN lacks: distributivity, associativity of the product, negation. By induction along successor and predecessor.
-use mathlib.Core.Path.{_≡_, refl, sym, ap, _∙_}
-use Prim.Native.Nat.{ℕ, zero, suc, _+_, _*_, _-_, _≤_}
-use native.Mathlib.Omega.{arith}
-use lib.IntN.{ℤ, pos, negsuc, sucℤ, predℤ, negℤ, one, _+ℤ_, _-ℤ_, _*ℤ_, +ℤ-idl, +ℤ-idr, +ℤ-assoc, +ℤ-comm, +ℤ-invl, +ℤ-invr, negℤ-negℤ, negℤ-+ℤ, +ℤ-negℤ-cancel, sucℤ-+ℤ, predℤ-+ℤ, zero-*ℤ, *ℤ-one, *ℤ-comm, sucℤ-*ℤ, predℤ-*ℤ, natAbs}
+-- The ring laws of ℤ that lib.IntN lacks: distributivity, associativity of the product, negation. By induction along successor and
+-- predecessor.
+use mathlib.Core.Path.{_≡_, sym, ap, _∙_}
+use Prim.Native.Nat.{ℕ, zero, suc}
+use lib.IntN.{ℤ, pos, negsuc, sucℤ, predℤ, negℤ, one, natAbs, _+ℤ_, _-ℤ_, _*ℤ_}
+use lib.IntN.{+ℤ-idl, +ℤ-idr, +ℤ-assoc, +ℤ-comm, +ℤ-invl, +ℤ-invr, negℤ-negℤ, negℤ-+ℤ, +ℤ-negℤ-cancel}
+use lib.IntN.{sucℤ-+ℤ, predℤ-+ℤ, zero-*ℤ, *ℤ-one, *ℤ-comm, sucℤ-*ℤ, predℤ-*ℤ}
 
 -- a property that successor and predecessor keep, and 0 has
 pub by-steps : (P : ℤ → Type 0) → P (pos 0) → ((z : ℤ) → P z → P (sucℤ z)) → ((z : ℤ) → P z → P (predℤ z)) → (z : ℤ) → P z
@@ -51,14 +53,12 @@ pub *ℤ-+ℤ : (a b c : ℤ) → a *ℤ (b +ℤ c) ≡ a *ℤ b +ℤ a *ℤ c
 -- negation
 pub neg-unique : (a b : ℤ) → a +ℤ b ≡ pos 0 → a ≡ negℤ b
 neg-unique a b h =
-    sym (+ℤ-idr a) ∙ ap (λ (x : ℤ). a +ℤ x) (sym (+ℤ-invr b)) ∙ sym (+ℤ-assoc a b (negℤ b)) ∙ ap (λ (x : ℤ). x +ℤ negℤ b) h ∙ +ℤ-idl (negℤ b)
+    sym (+ℤ-idr a) ∙ ap (λ (x : ℤ). a +ℤ x) (sym (+ℤ-invr b)) ∙ sym (+ℤ-assoc a b (negℤ b))
+    ∙ ap (λ (x : ℤ). x +ℤ negℤ b) h ∙ +ℤ-idl (negℤ b)
 
 pub neg-*ℤ : (a b : ℤ) → negℤ a *ℤ b ≡ negℤ (a *ℤ b)
 neg-*ℤ a b =
     neg-unique (negℤ a *ℤ b) (a *ℤ b) (sym (+ℤ-*ℤ (negℤ a) a b) ∙ ap (λ (x : ℤ). x *ℤ b) (+ℤ-invl a) ∙ zero-*ℤ b)
-
-pub *ℤ-neg : (a b : ℤ) → a *ℤ negℤ b ≡ negℤ (a *ℤ b)
-*ℤ-neg a b = *ℤ-comm a (negℤ b) ∙ neg-*ℤ b a ∙ ap negℤ (*ℤ-comm b a)
 
 pub neg-one-*ℤ : (a : ℤ) → negsuc 0 *ℤ a ≡ negℤ a
 neg-one-*ℤ a = neg-*ℤ (pos 1) a ∙ ap negℤ (one-*ℤ a)
@@ -66,14 +66,8 @@ neg-one-*ℤ a = neg-*ℤ (pos 1) a ∙ ap negℤ (one-*ℤ a)
 pub neg-sub : (a b : ℤ) → negℤ (a -ℤ b) ≡ b -ℤ a
 neg-sub a b = negℤ-+ℤ a (negℤ b) ∙ ap (λ (x : ℤ). negℤ a +ℤ x) (negℤ-negℤ b) ∙ +ℤ-comm (negℤ a) b
 
-pub sub-neg : (a b : ℤ) → a -ℤ negℤ b ≡ a +ℤ b
-sub-neg a b = ap (λ (x : ℤ). a +ℤ x) (negℤ-negℤ b)
-
 pub -ℤ-*ℤ : (a b c : ℤ) → (a -ℤ b) *ℤ c ≡ a *ℤ c -ℤ b *ℤ c
 -ℤ-*ℤ a b c = +ℤ-*ℤ a (negℤ b) c ∙ ap (λ (x : ℤ). a *ℤ c +ℤ x) (neg-*ℤ b c)
-
-pub *ℤ--ℤ : (a b c : ℤ) → a *ℤ (b -ℤ c) ≡ a *ℤ b -ℤ a *ℤ c
-*ℤ--ℤ a b c = *ℤ-+ℤ a b (negℤ c) ∙ ap (λ (x : ℤ). a *ℤ b +ℤ x) (*ℤ-neg a c)
 
 pub *ℤ-assoc : (a b c : ℤ) → (a *ℤ b) *ℤ c ≡ a *ℤ (b *ℤ c)
 *ℤ-assoc a b c = by-steps (λ (z : ℤ). (z *ℤ b) *ℤ c ≡ z *ℤ (b *ℤ c)) base up down a
@@ -102,20 +96,8 @@ eq-of-sub a b h = neg-unique a (negℤ b) h ∙ negℤ-negℤ b
 pub +ℤ-cancel : (a b c : ℤ) → a +ℤ c ≡ b +ℤ c → a ≡ b
 +ℤ-cancel a b c h = sym (+ℤ-negℤ-cancel a c) ∙ ap (λ (x : ℤ). x -ℤ c) h ∙ +ℤ-negℤ-cancel b c
 
--- naturals as integers
-pub pos-add : (m n : ℕ) → pos (m + n) ≡ pos m +ℤ pos n
-pos-add m n = refl
-
-pub pos-mul : (m n : ℕ) → pos (m * n) ≡ pos m *ℤ pos n
-pos-mul m n = refl
-
 pub pos-inj : {m n : ℕ} → pos m ≡ pos n → m ≡ n
 pos-inj e = ap natAbs e
-
-pub pos-sub : (m n : ℕ) → n ≤ m → pos (m - n) ≡ pos m -ℤ pos n
-pos-sub m n h =
-    let e : m - n + n ≡ m = omega arith in
-    sym (+ℤ-negℤ-cancel (pos (m - n)) (pos n)) ∙ ap (λ (k : ℕ). pos k -ℤ pos n) e
 
 -- a product grows by one factor at a time
 pub *ℤ-suc : (a : ℤ) (n : ℕ) → a *ℤ pos (suc n) ≡ a *ℤ pos n +ℤ a

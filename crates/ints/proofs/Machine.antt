@@ -1,24 +1,24 @@
--- Signed code by bounds: `Got w n z b` says that the w-bit word n is the integer z, within b. `Code w` is an expression over such words; from it are computed the word that the machine gets, the integer that is meant and its bound, and `fine`, the test that every bound is in its width's range.
--- Use: `abbrev dx c = cast w64 (x2 c) ⊟ cast w64 (x1 c)` in the proof file, with `x1 c = known (got-arg (c .fits .x1) h)`, `h : Within b (c .args .x1)`, at a parameter and `known (got-lit w64 5 tt)` at a literal. Then the need of the operation at the top of an expression e is `need e tt`, and a contract `r ≡ z` is `reads-as e tt`.
--- A test's flag is rewritten by `test-lt`, `test-le`, and `low-32` is the value of `(z & 4294967295) as u32`.
+-- Signed code by bounds: `Got w n z b` says that the w-bit word n is the integer z, within b. `Code w` is an expression over such words;
+-- from it are computed the word that the machine gets, the integer that is meant and its bound, and `fine`, the test that every bound
+-- is in its width's range.
+-- Use: `abbrev dx c = cast w64 (x2 c) ⊟ cast w64 (x1 c)` in the proof file, with `x1 c = known (got-arg (c .fits .x1) h)`,
+-- `h : Within b (c .args .x1)`, at a parameter and `known (got-lit w64 5 tt)` at a literal. Then the need of the operation at the top
+-- of an expression e is `need e tt`, and a contract `r ≡ z` is `reads-as e tt`.
 use mathlib.Core.Path.{_≡_, refl, sym, ap, _∙_, subst}
 use mathlib.Core.Bool.{Bool, true, false, _&&_}
-use Prim.Native.Nat.{ℕ, _+_, _*_, _%_, _^_, _≤_}
+use Prim.Native.Nat.{ℕ, _+_, _*_, _^_, _≤_}
 use native.Mathlib.Nat.{lt-of-le-of-lt}
-use native.Mathlib.Omega.{arith}
-use lib.Bits
 use lib.Dec.{T, ltb, ltb→lt}
 use lib.IntN.{ℤ, pos, natAbs, _+ℤ_, _-ℤ_, _*ℤ_}
-use lib.Signed.{ltZ, leZ, nonNeg, quotZ, shrZ, _≤ℤ_, yes-nonNeg}
-use mir.Syntax.{Width, w32, w64}
+use lib.Signed.{nonNeg, quotZ, shrZ, _≤ℤ_, yes-nonNeg}
+use mir.Syntax.{Width}
 use mir.Val.{bits, hbits, Fits, SFits, ofZ, toZ}
 use mir.ValLaws.{toZ-ofZ, ofZ-toZ, toZ-pos}
 use borrow.Author.Needs.{sfits-of}
-use Rattle.ints.specs.Modulo.{mod32}
 use Rattle.ints.proofs.Poly.{both}
-use Rattle.ints.proofs.Modulo.{mod32-low, low-mask}
-use Rattle.ints.proofs.Order.{pos-le, natural}
-use Rattle.ints.proofs.Bounds.{Within, within-self, within-pos, within-le, within-add, within-sub, within-mul, within-quot, within-shr, within-mag, within-fits}
+use Rattle.ints.proofs.Order.{natural}
+use Rattle.ints.proofs.Bounds.{Within, within-self, within-pos, within-mag, within-fits}
+use Rattle.ints.proofs.Bounds.{within-add, within-sub, within-mul, within-quot, within-shr}
 
 pub record Got (w : Width) (n : ℕ) (z : ℤ) (b : ℕ) : Type 0 where
   pub reads : toZ w n ≡ z
@@ -50,9 +50,6 @@ pub got-nat : {w : Width} {n b : ℕ} → n ≤ b → T (ltb b (2 ^ hbits w)) �
 got-nat {w} {n} {b} h t =
     record { reads = toZ-pos w n (lt-of-le-of-lt h (ltb→lt b (2 ^ hbits w) t)); word = refl; bound = within-pos h }
 
-pub got-le : {w : Width} {n b c : ℕ} {z : ℤ} → b ≤ c → Got w n z b → Got w n z c
-got-le l g = record { reads = g .reads; word = g .word; bound = within-le l (g .bound) }
-
 -- operations
 pub made : {w : Width} {x z : ℤ} {b : ℕ} → x ≡ z → Within b z → T (ltb b (2 ^ hbits w)) → Made w x z b
 made {w} {x} {z} {b} e h t =
@@ -74,19 +71,6 @@ module _ {w : Width} {m n : ℕ} {z y : ℤ} {p q : ℕ} (g : Got w m z p) (h : 
 
   pub made-quot : T (ltb p (2 ^ hbits w)) → Made w (quotZ (toZ w m) (toZ w n)) (quotZ z y) p
   made-quot t = made (both quotZ (g .reads) (h .reads)) (within-quot y (g .bound)) t
-
-  -- tests
-  pub test-lt : ltZ (toZ w m) (toZ w n) ≡ ltZ z y
-  test-lt = ap (λ (x : ℤ). ltZ x (toZ w n)) (g .reads) ∙ ap (ltZ z) (h .reads)
-
-  pub test-le : leZ (toZ w m) (toZ w n) ≡ leZ z y
-  test-le = ap (λ (x : ℤ). leZ x (toZ w n)) (g .reads) ∙ ap (leZ z) (h .reads)
-
-  pub same-value : m ≡ n → z ≡ y
-  same-value e = sym (g .reads) ∙ ap (toZ w) e ∙ h .reads
-
-  pub same-word : z ≡ y → m ≡ n
-  same-word e = g .word ∙ ap (ofZ w) e ∙ sym (h .word)
 
 pub made-shr : {w : Width} {n : ℕ} {z : ℤ} {b : ℕ} (k : ℕ) → Got w n z b → T (ltb b (2 ^ hbits w)) → Made w (shrZ (toZ w n) k) (shrZ z k) b
 made-shr k g t = made (ap (λ (x : ℤ). shrZ x k) (g .reads)) (within-shr k (g .bound)) t
@@ -206,14 +190,3 @@ pub need-unsigned : {w : Width} (v : Width) {n : ℕ} {z : ℤ} {b : ℕ} → Go
     → T (nonNeg (toZ w n)) × Fits v (natAbs (toZ w n))
 need-unsigned {w} v {n} {z} {b} g h t =
     rw (g .reads) (yes-nonNeg h, record { fits = lt-of-le-of-lt (g .bound .within) (ltb→lt b (2 ^ bits v) t) })
-
--- the low 32 bits of an `i64`, `(z & 4294967295) as u32`: the need, and the value
-pub got-mask : (n : ℕ) → Got w64 (Bits.bitAnd n 4294967295) (pos (n % 4294967296)) 4294967295
-got-mask n = rw (low-mask n) (got-nat (omega arith) tt)
-
-pub need-mask : (n : ℕ) → T (nonNeg (toZ w64 (Bits.bitAnd n 4294967295))) × Fits w32 (natAbs (toZ w64 (Bits.bitAnd n 4294967295)))
-need-mask n = need-unsigned w32 (got-mask n) (pos-le (omega arith)) tt
-
-pub low-32 : {n : ℕ} {z : ℤ} {b : ℕ} → Got w64 n z b → T (ltb b (2 ^ 63)) → natAbs (toZ w64 (Bits.bitAnd n 4294967295)) ≡ mod32 z
-low-32 {n} {z} {b} g t =
-    ap natAbs (got-mask n .reads) ∙ ap (λ (k : ℕ). k % 4294967296) (g .word) ∙ mod32-low z (within-mag (g .bound) (ltb→lt b (2 ^ 63) t))

@@ -1,4 +1,5 @@
--- The laws of mod32: it takes sums and products to sums and products of naturals modulo 2^32, and it is the low half of a machine word. By cases on the signs, and omega.
+-- The laws of mod32: it takes sums and products to sums and products of naturals modulo 2^32, and it is the low half of a machine word.
+-- By cases on the signs, and omega.
 use mathlib.Core.Path.{_≡_, refl, ap, _∙_}
 use mathlib.Core.Bool.{Bool, true, false, cond}
 use Prim.Native.Nat.{ℕ, zero, suc, _+_, _*_, _-_, _%_, _<_}
@@ -9,9 +10,8 @@ use lib.Dec.{ltb}
 use lib.IntN.{ℤ, pos, negsuc, subℕ, negℤ, _+ℤ_, _-ℤ_, _*ℤ_, *ℤ-zero}
 use lib.Signed.{mag}
 use borrow.Author.Tests.{ltb-true, ltb-false}
-use mir.Syntax.{w32, w64}
-use mir.Val.{Fits, ofZ, toZ}
-use mir.ValLaws.{toZ-fits, ofZ-toZ}
+use mir.Syntax.{w64}
+use mir.Val.{ofZ}
 use Rattle.ints.specs.Modulo.{mod32}
 use Rattle.ints.proofs.Laws.{*ℤ-suc}
 
@@ -29,7 +29,8 @@ mod32-subℕ : (a b : ℕ) → mod32 (subℕ a (suc b)) ≡ (a % 4294967296 + (4
 unfolding mod32
 mod32-subℕ a b = go (ltb a (suc b)) refl
   where
-    go : (t : Bool) → ltb a (suc b) ≡ t → mod32 (cond t (negsuc (suc b - suc a)) (pos (a - suc b))) ≡ (a % 4294967296 + (4294967295 - b % 4294967296)) % 4294967296
+    go : (t : Bool) → ltb a (suc b) ≡ t
+        → mod32 (cond t (negsuc (suc b - suc a)) (pos (a - suc b))) ≡ (a % 4294967296 + (4294967295 - b % 4294967296)) % 4294967296
     go true e = omega (arith, ltb-true a (suc b) e)
     go false e = omega (arith, ltb-false a (suc b) e)
 
@@ -48,7 +49,8 @@ mod32-neg (negsuc n) = omega arith
 
 pub mod32-sub : (a b : ℤ) → mod32 (a -ℤ b) ≡ (mod32 a + (4294967296 - mod32 b)) % 4294967296
 mod32-sub a b =
-    mod32-add a (negℤ b) ∙ ap (λ (k : ℕ). (mod32 a + k) % 4294967296) (mod32-neg b) ∙ add-mod-mod (mod32 a) (4294967296 - mod32 b) 4294967296
+    mod32-add a (negℤ b) ∙ ap (λ (k : ℕ). (mod32 a + k) % 4294967296) (mod32-neg b)
+    ∙ add-mod-mod (mod32 a) (4294967296 - mod32 b) 4294967296
 
 pub mod32-mul : (a : ℤ) (n : ℕ) → mod32 (a *ℤ pos n) ≡ (mod32 a * n) % 4294967296
 mod32-mul a zero = ap mod32 (*ℤ-zero a) ∙ mod32-pos 0 ∙ simp mul-zero
@@ -59,31 +61,20 @@ mod32-mul a (suc n) =
 pub mod32-affine : (c a b : ℤ) (x y : ℕ) → mod32 (c +ℤ a *ℤ pos x +ℤ b *ℤ pos y) ≡ (mod32 c + mod32 a * x + mod32 b * y) % 4294967296
 mod32-affine c a b x y =
     mod32-add (c +ℤ a *ℤ pos x) (b *ℤ pos y)
-    ∙ ap (λ (k : ℕ). (mod32 (c +ℤ a *ℤ pos x) + k) % 4294967296) (mod32-mul b y) ∙ add-mod-mod (mod32 (c +ℤ a *ℤ pos x)) (mod32 b * y) 4294967296
+    ∙ ap (λ (k : ℕ). (mod32 (c +ℤ a *ℤ pos x) + k) % 4294967296) (mod32-mul b y)
+    ∙ add-mod-mod (mod32 (c +ℤ a *ℤ pos x)) (mod32 b * y) 4294967296
     ∙ ap (λ (k : ℕ). (k + mod32 b * y) % 4294967296) first ∙ mod-add-mod (mod32 c + mod32 a * x) 4294967296 (mod32 b * y)
   where
     first : mod32 (c +ℤ a *ℤ pos x) ≡ (mod32 c + mod32 a * x) % 4294967296
-    first = mod32-add c (a *ℤ pos x) ∙ ap (λ (k : ℕ). (mod32 c + k) % 4294967296) (mod32-mul a x) ∙ add-mod-mod (mod32 c) (mod32 a * x) 4294967296
+    first =
+        mod32-add c (a *ℤ pos x) ∙ ap (λ (k : ℕ). (mod32 c + k) % 4294967296) (mod32-mul a x)
+        ∙ add-mod-mod (mod32 c) (mod32 a * x) 4294967296
 
-pub mod32-step : (v : ℕ) (z a : ℤ) → v ≡ mod32 z → (v + mod32 a) % 4294967296 ≡ mod32 (z +ℤ a)
-mod32-step v z a e = omega (arith, mod32-add z a)
-
--- a number of 32 bits, and the low half of one of 64
-pub mod32-ofZ : (z : ℤ) → mag z < 2147483648 → mod32 z ≡ ofZ w32 z
-unfolding mod32
-mod32-ofZ (pos n) h = omega arith
-mod32-ofZ (negsuc n) h = omega arith
-
+-- the low half of a number of 64 bits
 pub mod32-low : (z : ℤ) → mag z < 9223372036854775808 → ofZ w64 z % 4294967296 ≡ mod32 z
 unfolding mod32
 mod32-low (pos n) h = refl
 mod32-low (negsuc n) h = omega arith
-
--- 32 bits, read as signed and written again
-pub mod32-toZ : (n : ℕ) → n < 4294967296 → mod32 (toZ w32 n) ≡ n
-mod32-toZ n h =
-    let f : Fits w32 n = record { fits = h } in
-    mod32-ofZ (toZ w32 n) (toZ-fits w32 n f .sfits) ∙ ofZ-toZ w32 n f
 
 -- the low 32 bits, as code takes them
 pub low-mask : (n : ℕ) → Bits.bitAnd n 4294967295 ≡ n % 4294967296

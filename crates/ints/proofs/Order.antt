@@ -1,5 +1,7 @@
--- Orders on ℤ for omega: an integer is a difference of two naturals, `Is z p n` says z = p - n, and an order on integers is one on naturals.
--- Use: `le-of ρ a b (omega (arith, le-to ρ c d h))` proves `eval ρ a ≤ℤ eval ρ b` from `h : eval ρ c ≤ℤ eval ρ d`. Each side goes through Poly's normal form, and the unknowns are `up m` and `dn m` of its monomials m, so a product of variables is one unknown.
+-- Orders on ℤ for omega: an integer is a difference of two naturals, `Is z p n` says z = p - n, and an order on integers is one on
+-- naturals.
+-- Use: `le-of ρ a b (omega (arith, le-to ρ c d h))` proves `eval ρ a ≤ℤ eval ρ b` from `h : eval ρ c ≤ℤ eval ρ d`. Each side goes through
+-- Poly's normal form, and the unknowns are `up m` and `dn m` of its monomials m, so a product of variables is one unknown.
 use mathlib.Core.Path.{_≡_, refl, sym, ap, _∙_, subst}
 use mathlib.Core.Bool.{Bool, true, false, not}
 use mathlib.Core.List.{List, [], _∷_}
@@ -8,10 +10,10 @@ use native.Mathlib.Nat.{mul-suc}
 use native.Mathlib.Omega.{arith}
 use lib.Dec.{T, leb, ltb, leb→le, le→leb, ltb→lt, lt→ltb}
 use lib.IntN.{ℤ, pos, negsuc, negℤ, natAbs, _+ℤ_, _-ℤ_, _*ℤ_, +ℤ-idr, +ℤ-invl}
-use lib.Signed.{ltZ, leZ, nonNeg, _≤ℤ_, _<ℤ_, leZ-yes, ltZ-yes, pos-natAbs, yes-nonNeg, ≤ℤ-refl}
+use lib.Signed.{ltZ, leZ, nonNeg, _≤ℤ_, _<ℤ_, leZ-yes, ltZ-yes, pos-natAbs, yes-nonNeg}
 use borrow.Author.Tests.{leb-true, leb-false, le-leb, lt-ltb, le-ltb}
 use Rattle.ints.proofs.Laws.{+ℤ-swap, +ℤ-cancel, *ℤ-+ℤ, neg-*ℤ, pos-inj}
-use Rattle.ints.proofs.Poly.{Exp, var, con, _⊕_, _⊖_, _⊗_, neg, eval, Poly, none, term, mono, poly, norm, norm-is, solve, both}
+use Rattle.ints.proofs.Poly.{Exp, var, con, _⊕_, _⊖_, neg, eval, Poly, none, term, mono, poly, norm, norm-is, solve, both}
 
 -- z = p - n
 pub record Is (z : ℤ) (p n : ℕ) : Type 0 where
@@ -52,23 +54,16 @@ module _ {z y : ℤ} {p n q m : ℕ} (h : Is z p n) (k : Is y q m) where
             ∙ ap (λ (x : ℤ). x +ℤ pos m) (h .is);
       }
 
-  pub is-mul : Is (z *ℤ y) (p * q + n * m) (p * m + n * q)
-  is-mul =
-      record {
-        is =
-            both (λ (a b : ℤ). z *ℤ y +ℤ (a *ℤ pos m +ℤ pos n *ℤ b)) (sym (h .is)) (sym (k .is))
-            ∙ solve (z ∷ y ∷ pos n ∷ pos m ∷ [])
-            (var 0 ⊗ var 1 ⊕ ((var 0 ⊕ var 2) ⊗ var 3 ⊕ var 2 ⊗ (var 1 ⊕ var 3))) ((var 0 ⊕ var 2) ⊗ (var 1 ⊕ var 3) ⊕ var 2 ⊗ var 3) tt
-            ∙ both (λ (a b : ℤ). a *ℤ b +ℤ pos n *ℤ pos m) (h .is) (k .is);
-      }
-
 pub is-times : (k : ℕ) {z : ℤ} {p n : ℕ} → Is z p n → Is (pos k *ℤ z) (k * p) (k * n)
 is-times k {z} {p} {n} h = record { is = sym (*ℤ-+ℤ (pos k) z (pos n)) ∙ ap (λ (x : ℤ). pos k *ℤ x) (h .is) }
 
 -- all differences of one integer agree
 pub is-nat : {z : ℤ} {p n q m : ℕ} → Is z p n → Is z q m → p + m ≡ q + n
 is-nat {z} {p} {n} {q} {m} h k =
-    pos-inj (ap (λ (x : ℤ). x +ℤ pos m) (sym (h .is)) ∙ solve (z ∷ pos n ∷ pos m ∷ []) (var 0 ⊕ var 1 ⊕ var 2) (var 0 ⊕ var 2 ⊕ var 1) tt ∙ ap (λ (x : ℤ). x +ℤ pos n) (k .is))
+    pos-inj
+    (ap (λ (x : ℤ). x +ℤ pos m) (sym (h .is))
+    ∙ solve (z ∷ pos n ∷ pos m ∷ []) (var 0 ⊕ var 1 ⊕ var 2) (var 0 ⊕ var 2 ⊕ var 1) tt
+    ∙ ap (λ (x : ℤ). x +ℤ pos n) (k .is))
 
 -- a difference, from another of the same integer
 pub is-same : {z : ℤ} {p n q m : ℕ} → Is z p n → p + m ≡ q + n → Is z q m
@@ -76,7 +71,8 @@ is-same {z} {p} {n} {q} {m} h e =
     record {
       is =
           +ℤ-cancel (z +ℤ pos m) (pos q) (pos n)
-          (solve (z ∷ pos n ∷ pos m ∷ []) (var 0 ⊕ var 2 ⊕ var 1) (var 0 ⊕ var 1 ⊕ var 2) tt ∙ ap (λ (x : ℤ). x +ℤ pos m) (h .is) ∙ ap pos e);
+          (solve (z ∷ pos n ∷ pos m ∷ []) (var 0 ⊕ var 2 ⊕ var 1) (var 0 ⊕ var 1 ⊕ var 2) tt
+          ∙ ap (λ (x : ℤ). x +ℤ pos m) (h .is) ∙ ap pos e);
     }
 
 -- an order of integers is one of naturals
@@ -141,13 +137,16 @@ is-poly : (ρ : List ℤ) (p : Poly) → Is (poly ρ p) (hi ρ p) (lo ρ p)
 is-poly ρ none = is-pos 0
 is-poly ρ (term (pos c) m p) = is-add (is-times c (is-self (mono ρ m))) (is-poly ρ p)
 is-poly ρ (term (negsuc c) m p) =
-    is-add (subst (λ (x : ℤ). Is x (suc c * dn (mono ρ m)) (suc c * up (mono ρ m))) (sym (neg-*ℤ (pos (suc c)) (mono ρ m))) (is-neg (is-times (suc c) (is-self (mono ρ m))))) (is-poly ρ p)
+    is-add
+    (subst (λ (x : ℤ). Is x (suc c * dn (mono ρ m)) (suc c * up (mono ρ m))) (sym (neg-*ℤ (pos (suc c)) (mono ρ m)))
+    (is-neg (is-times (suc c) (is-self (mono ρ m)))))
+    (is-poly ρ p)
 
 module _ (ρ : List ℤ) (a b : Exp) where
   is-diff : Is (eval ρ b -ℤ eval ρ a) (hi ρ (norm (b ⊖ a))) (lo ρ (norm (b ⊖ a)))
   is-diff = subst (λ (x : ℤ). Is x (hi ρ (norm (b ⊖ a))) (lo ρ (norm (b ⊖ a)))) (norm-is ρ (b ⊖ a)) (is-poly ρ (norm (b ⊖ a)))
 
-  -- z and y by their parts, against their difference
+  -- both sides, each as a difference of two naturals, against their own difference
   agree : hi ρ (norm (b ⊖ a)) + (dn (eval ρ b) + up (eval ρ a)) ≡ up (eval ρ b) + dn (eval ρ a) + lo ρ (norm (b ⊖ a))
   agree = is-nat is-diff (is-sub (is-self (eval ρ b)) (is-self (eval ρ a)))
 
@@ -213,9 +212,6 @@ lt-ltZ a b h = true-of (ltZ a b) (h .lt)
 pub le-leZ : (a b : ℤ) → a ≤ℤ b → leZ a b ≡ true
 le-leZ a b h = true-of (leZ a b) (h .le)
 
-pub le-ltZ : (a b : ℤ) → b ≤ℤ a → ltZ a b ≡ false
-le-ltZ a b h = sym (not-not (ltZ a b)) ∙ ap not (sym (opposite a b) ∙ le-leZ b a h)
-
 pub lt-leZ : (a b : ℤ) → b <ℤ a → leZ a b ≡ false
 lt-leZ a b h = opposite b a ∙ ap not (lt-ltZ b a h)
 
@@ -239,9 +235,6 @@ lt-nonNeg z h = nonNeg-is z ∙ lt-leZ (pos 0) z h
 pub pos-le : {m n : ℕ} → m ≤ n → pos m ≤ℤ pos n
 pos-le {m} {n} h = leZ-yes (le→leb m n h)
 
-pub le-pos : {m n : ℕ} → pos m ≤ℤ pos n → m ≤ n
-le-pos {m} {n} h = leb→le m n (h .le)
-
 -- the orders' laws
 module _ {a b c : ℤ} where
   pub ≤ℤ-trans : a ≤ℤ b → b ≤ℤ c → a ≤ℤ c
@@ -253,26 +246,8 @@ module _ {a b : ℤ} where
   pub <ℤ→≤ℤ : a <ℤ b → a ≤ℤ b
   <ℤ→≤ℤ h = le-of (a ∷ b ∷ []) (var 0) (var 1) (omega (arith, lt-to (a ∷ b ∷ []) (var 0) (var 1) h))
 
-  pub suc≤ℤ : a <ℤ b → (a +ℤ pos 1) ≤ℤ b
-  suc≤ℤ h = le-of (a ∷ b ∷ []) (var 0 ⊕ con (pos 1)) (var 1) (omega (arith, lt-to (a ∷ b ∷ []) (var 0) (var 1) h))
-
-  pub ≤ℤ-antisym : a ≤ℤ b → b ≤ℤ a → a ≡ b
-  ≤ℤ-antisym h k = eq-of (a ∷ b ∷ []) (var 0) (var 1) (omega (arith, le-to (a ∷ b ∷ []) (var 0) (var 1) h, le-to (a ∷ b ∷ []) (var 1) (var 0) k))
-
-  pub neg-anti : a ≤ℤ b → negℤ b ≤ℤ negℤ a
-  neg-anti h = le-of (a ∷ b ∷ []) (neg (var 1)) (neg (var 0)) (omega (arith, le-to (a ∷ b ∷ []) (var 0) (var 1) h))
-
   pub sub-nonneg : a ≤ℤ b → pos 0 ≤ℤ (b -ℤ a)
   sub-nonneg h = le-of (a ∷ b ∷ []) (con (pos 0)) (var 1 ⊖ var 0) (omega (arith, le-to (a ∷ b ∷ []) (var 0) (var 1) h))
-
-  pub le-of-sub : pos 0 ≤ℤ (b -ℤ a) → a ≤ℤ b
-  le-of-sub h = le-of (a ∷ b ∷ []) (var 0) (var 1) (omega (arith, le-to (a ∷ b ∷ []) (con (pos 0)) (var 1 ⊖ var 0) h))
-
-  pub sum-nonneg : pos 0 ≤ℤ a → pos 0 ≤ℤ b → pos 0 ≤ℤ (a +ℤ b)
-  sum-nonneg h k = le-of (a ∷ b ∷ []) (con (pos 0)) (var 0 ⊕ var 1) (omega (arith, le-to (a ∷ b ∷ []) (con (pos 0)) (var 0) h, le-to (a ∷ b ∷ []) (con (pos 0)) (var 1) k))
-
-pub ≤ℤ-of-eq : {a b : ℤ} → a ≡ b → a ≤ℤ b
-≤ℤ-of-eq {a} {b} e = subst (λ (x : ℤ). a ≤ℤ x) e (≤ℤ-refl a)
 
 pub +ℤ-mono : {a b c d : ℤ} → a ≤ℤ b → c ≤ℤ d → (a +ℤ c) ≤ℤ (b +ℤ d)
 +ℤ-mono {a} {b} {c} {d} h k =
@@ -289,18 +264,15 @@ successor {z = pos (suc n)} h = (n, refl)
 successor {z = negsuc n} h = absurd (h .lt)
 
 pub mul-nonneg : {a b : ℤ} → pos 0 ≤ℤ a → pos 0 ≤ℤ b → pos 0 ≤ℤ (a *ℤ b)
-mul-nonneg {a} {b} h k = subst (λ (x : ℤ). pos 0 ≤ℤ x) (sym (both _*ℤ_ (natural h) (natural k))) (pos-le {m = 0} {n = natAbs a * natAbs b} (omega arith))
+mul-nonneg {a} {b} h k =
+    subst (λ (x : ℤ). pos 0 ≤ℤ x) (sym (both _*ℤ_ (natural h) (natural k)))
+    (pos-le {m = 0} {n = natAbs a * natAbs b} (omega arith))
 
 pub mul-pos : {a b : ℤ} → pos 0 <ℤ a → pos 0 <ℤ b → pos 0 <ℤ (a *ℤ b)
 mul-pos {a} {b} h k =
     let (m, e) = successor h in
     let (n, f) = successor k in
     subst (λ (x : ℤ). pos 0 <ℤ x) (sym (both _*ℤ_ e f)) (ltZ-yes (lt→ltb 0 (suc m * suc n) (omega (arith, mul-suc (suc m) n))))
-
-pub *ℤ-mono : {a b c : ℤ} → pos 0 ≤ℤ c → a ≤ℤ b → (c *ℤ a) ≤ℤ (c *ℤ b)
-*ℤ-mono {a} {b} {c} h k =
-    let ρ : List ℤ = a ∷ b ∷ c ∷ [] in
-    le-of ρ (var 2 ⊗ var 0) (var 2 ⊗ var 1) (omega (arith, le-to ρ (con (pos 0)) (var 2 ⊗ (var 1 ⊖ var 0)) (mul-nonneg h (sub-nonneg k))))
 
 -- a sum of three products of non-negative and positive numbers that is 0
 module _ {u v w : ℤ} {d e f : ℤ} where
@@ -317,10 +289,3 @@ module _ {u v w : ℤ} {d e f : ℤ} where
       let b : natAbs v ≡ 0 = omega (arith, mul-suc (natAbs v) j) in
       let c : natAbs w ≡ 0 = omega (arith, mul-suc (natAbs w) k) in
       (natural hu ∙ ap pos a, natural hv ∙ ap pos b, natural hw ∙ ap pos c)
-
--- an example with products as unknowns: from x ≤ y and 2xz + 3 ≤ xz + x, the order xz + 2 < y
-with-products : (x y z : ℤ) → x ≤ℤ y → (pos 2 *ℤ x *ℤ z +ℤ pos 3) ≤ℤ (z *ℤ x +ℤ x) → (x *ℤ z +ℤ pos 2) <ℤ y
-with-products x y z h k =
-    let ρ : List ℤ = x ∷ y ∷ z ∷ [] in
-    lt-of ρ (var 0 ⊗ var 2 ⊕ con (pos 2)) (var 1)
-    (omega (arith, le-to ρ (var 0) (var 1) h, le-to ρ (con (pos 2) ⊗ var 0 ⊗ var 2 ⊕ con (pos 3)) (var 2 ⊗ var 0 ⊕ var 0) k))

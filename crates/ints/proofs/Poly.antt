@@ -1,11 +1,13 @@
--- Polynomial identities over ℤ by computation: an expression's normal form is a list of (coefficient, sorted monomial), and two expressions are equal where every coefficient of their difference is 0.
--- Use: `solve ρ a b tt : eval ρ a ≡ eval ρ b`, with ρ the values of `var 0`, `var 1`, ..; `eval` computes, so the goal may be the plain equation.
+-- Polynomial identities over ℤ by computation: an expression's normal form is a list of (coefficient, sorted monomial), and two
+-- expressions are equal where every coefficient of their difference is 0.
+-- Use: `solve ρ a b tt : eval ρ a ≡ eval ρ b`, with ρ the values of `var 0`, `var 1`, ..; `eval` computes, so the goal may be the plain
+-- equation.
 use mathlib.Core.Path.{_≡_, refl, sym, ap, _∙_}
 use mathlib.Core.Bool.{Bool, true, false, _&&_}
 use mathlib.Core.List.{List, [], _∷_}
 use Prim.Native.Nat.{ℕ, zero, suc}
 use lib.Dec.{T, leb, eqb, eqb→eq}
-use lib.IntN.{ℤ, pos, negsuc, negℤ, _+ℤ_, _-ℤ_, _*ℤ_, +ℤ-idl, +ℤ-idr, +ℤ-assoc, +ℤ-comm, +ℤ-invr, zero-*ℤ, *ℤ-zero}
+use lib.IntN.{ℤ, pos, negsuc, negℤ, _+ℤ_, _-ℤ_, _*ℤ_, +ℤ-idl, +ℤ-idr, +ℤ-assoc, +ℤ-comm, zero-*ℤ, *ℤ-zero}
 use Rattle.ints.proofs.Laws.{+ℤ-left-comm, +ℤ-*ℤ, *ℤ-+ℤ, neg-one-*ℤ, *ℤ-assoc, one-*ℤ, *ℤ-one', *ℤ-left-comm, *ℤ-swap, eq-of-sub}
 
 infixl 6 _⊕_ _⊖_
@@ -107,7 +109,9 @@ same-eq : (m n : List ℕ) → T (same m n) → m ≡ n
 same-eq [] [] t = refl
 same-eq [] (j ∷ n) t = absurd t
 same-eq (i ∷ m) [] t = absurd t
-same-eq (i ∷ m) (j ∷ n) t = ap (λ (k : ℕ). k ∷ m) (eqb→eq i j (and-l (eqb i j) (same m n) t)) ∙ ap (λ (l : List ℕ). j ∷ l) (same-eq m n (and-r (eqb i j) (same m n) t))
+same-eq (i ∷ m) (j ∷ n) t =
+    ap (λ (k : ℕ). k ∷ m) (eqb→eq i j (and-l (eqb i j) (same m n) t))
+    ∙ ap (λ (l : List ℕ). j ∷ l) (same-eq m n (and-r (eqb i j) (same m n) t))
 
 isZero-eq : (c : ℤ) → T (isZero c) → c ≡ pos 0
 isZero-eq (pos n) t = ap pos (eqb→eq n 0 t)
@@ -189,44 +193,3 @@ module _ (ρ : List ℤ) where
 
   pub solve : (a b : Exp) → T (allZero (norm (a ⊖ b))) → eval ρ a ≡ eval ρ b
   solve a b t = eq-of-sub (eval ρ a) (eval ρ b) (sym (norm-is (a ⊖ b)) ∙ allZero-is (norm (a ⊖ b)) t)
-
-  -- with an equation e in hand: a - b is k times the difference of its sides
-  pub solve-by : (k p q a b : Exp) → T (allZero (norm ((a ⊖ b) ⊖ k ⊗ (p ⊖ q)))) → eval ρ p ≡ eval ρ q → eval ρ a ≡ eval ρ b
-  solve-by k p q a b t e =
-      eq-of-sub (eval ρ a) (eval ρ b)
-      (solve (a ⊖ b) (k ⊗ (p ⊖ q)) t ∙ ap (λ (x : ℤ). eval ρ k *ℤ (x -ℤ eval ρ q)) e
-      ∙ ap (λ (x : ℤ). eval ρ k *ℤ x) (+ℤ-invr (eval ρ q)) ∙ *ℤ-zero (eval ρ k))
-
--- examples: the value of an edge from (x1, y1) to (x2, y2) at (px, py)
-abbrev edge : ℤ → ℤ → ℤ → ℤ → ℤ → ℤ → ℤ
-edge x1 y1 x2 y2 px py = (py -ℤ y1) *ℤ (x2 -ℤ x1) -ℤ (px -ℤ x1) *ℤ (y2 -ℤ y1)
-
-abbrev edgeE : Exp → Exp → Exp → Exp → Exp → Exp → Exp
-edgeE x1 y1 x2 y2 px py = (py ⊖ y1) ⊗ (x2 ⊖ x1) ⊖ (px ⊖ x1) ⊗ (y2 ⊖ y1)
-
-step-right : (x1 y1 x2 y2 px py : ℤ) → edge x1 y1 x2 y2 (px +ℤ pos 8) py ≡ edge x1 y1 x2 y2 px py -ℤ pos 8 *ℤ (y2 -ℤ y1)
-step-right x1 y1 x2 y2 px py =
-    solve (x1 ∷ y1 ∷ x2 ∷ y2 ∷ px ∷ py ∷ [])
-    (edgeE (var 0) (var 1) (var 2) (var 3) (var 4 ⊕ con (pos 8)) (var 5))
-    (edgeE (var 0) (var 1) (var 2) (var 3) (var 4) (var 5) ⊖ con (pos 8) ⊗ (var 3 ⊖ var 1)) tt
-
-reversed : (x1 y1 x2 y2 px py : ℤ) → edge x2 y2 x1 y1 px py ≡ negℤ (edge x1 y1 x2 y2 px py)
-reversed x1 y1 x2 y2 px py =
-    solve (x1 ∷ y1 ∷ x2 ∷ y2 ∷ px ∷ py ∷ [])
-    (edgeE (var 2) (var 3) (var 0) (var 1) (var 4) (var 5)) (neg (edgeE (var 0) (var 1) (var 2) (var 3) (var 4) (var 5))) tt
-
-module _ (x1 y1 x2 y2 x3 y3 px py : ℤ) where
-  abbrev ρ₈ : List ℤ
-  ρ₈ = x1 ∷ y1 ∷ x2 ∷ y2 ∷ x3 ∷ y3 ∷ px ∷ py ∷ []
-
-  weights-x : edge x2 y2 x3 y3 px py *ℤ (x1 -ℤ px) +ℤ edge x3 y3 x1 y1 px py *ℤ (x2 -ℤ px) +ℤ edge x1 y1 x2 y2 px py *ℤ (x3 -ℤ px) ≡ pos 0
-  weights-x =
-      solve ρ₈
-      (edgeE (var 2) (var 3) (var 4) (var 5) (var 6) (var 7) ⊗ (var 0 ⊖ var 6) ⊕ edgeE (var 4) (var 5) (var 0) (var 1) (var 6) (var 7) ⊗ (var 2 ⊖ var 6)
-      ⊕ edgeE (var 0) (var 1) (var 2) (var 3) (var 6) (var 7) ⊗ (var 4 ⊖ var 6)) (con (pos 0)) tt
-
-  weights-y : edge x2 y2 x3 y3 px py *ℤ (y1 -ℤ py) +ℤ edge x3 y3 x1 y1 px py *ℤ (y2 -ℤ py) +ℤ edge x1 y1 x2 y2 px py *ℤ (y3 -ℤ py) ≡ pos 0
-  weights-y =
-      solve ρ₈
-      (edgeE (var 2) (var 3) (var 4) (var 5) (var 6) (var 7) ⊗ (var 1 ⊖ var 7) ⊕ edgeE (var 4) (var 5) (var 0) (var 1) (var 6) (var 7) ⊗ (var 3 ⊖ var 7)
-      ⊕ edgeE (var 0) (var 1) (var 2) (var 3) (var 6) (var 7) ⊗ (var 5 ⊖ var 7)) (con (pos 0)) tt

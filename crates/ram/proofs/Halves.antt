@@ -6,9 +6,8 @@ use mathlib.Core.Logic.{_≢_, _⊎_, inl, inr}
 use mathlib.Core.List.{List}
 use native.Mathlib.Omega.{arith}
 use native.Mathlib.Nat.{div-add-mod'}
-use native.Mathlib.Decide.{decLt}
 use lib.ListN.{length, getD, set, length-set}
-use lib.Seq.{getD-set-same, getD-set-other, set-set, set-comm}
+use lib.Seq.{getD-set-same, getD-set-other, set-comm}
 use Rattle.ram.specs.Ram.{loadHalf, storeHalf}
 
 -- the half-words at a and at b have no byte in common
@@ -18,14 +17,6 @@ Apart a b = (a + 1 < b) ⊎ (b + 1 < a)
 pub apart-sym : {a b : ℕ} → Apart a b → Apart b a
 apart-sym (inl h) = inr h
 apart-sym (inr h) = inl h
-
--- two even addresses are equal or apart
-pub even-apart : (a b : ℕ) → a % 2 ≡ 0 → b % 2 ≡ 0 → a ≢ b → Apart a b
-even-apart a b p q d = go (decLt a b)
-  where
-    go : Dec (a < b) → Apart a b
-    go (yes l) = inl (omega arith)
-    go (no l) = inr (omega arith)
 
 -- an address apart from a, byte by byte
 pub apart-ne : {a b : ℕ} → Apart a b → (b ≢ a) × (b ≢ a + 1) × (b + 1 ≢ a) × (b + 1 ≢ a + 1)
@@ -86,12 +77,6 @@ module _ (m : List ℕ) (a v : ℕ) where
 
   pub half-stored-other : (b : ℕ) → Apart a b → loadHalf (storeHalf m a v) b ≡ loadHalf m b
   half-stored-other b h = half-bytes (storeHalf m a v) b ∙ ap joined (bytes-stored-other b h) ∙ sym (half-bytes m b)
-
-  pub stored-twice : (w : ℕ) → storeHalf (storeHalf m a v) a w ≡ storeHalf m a w
-  unfolding storeHalf
-  stored-twice w =
-      let d : a + 1 ≢ a = omega arith in
-      rw (set-comm (set m a (v / 256)) (a + 1) a (v % 256) (w / 256) d) (simp set-set)
 
   set-past : (i x : ℕ) → i ≢ a → i ≢ a + 1 → set (storeHalf m a v) i x ≡ storeHalf (set m i x) a v
   unfolding storeHalf

@@ -29,7 +29,8 @@ module _ (m : List ℕ) (a v : ℕ) where
   word-stored-other b o =
       let n = storeHalf m a (v / 65536) in
       ap₂ (λ (x y : ℕ). x * 65536 + y)
-      (half-stored-other n (a + 2) (v % 65536) b (near (a + 2) b (omega arith)) ∙ half-stored-other m a (v / 65536) b (near a b (omega arith)))
+      (half-stored-other n (a + 2) (v % 65536) b (near (a + 2) b (omega arith))
+      ∙ half-stored-other m a (v / 65536) b (near a b (omega arith)))
       (half-stored-other n (a + 2) (v % 65536) (b + 2) (near (a + 2) (b + 2) (omega arith))
       ∙ half-stored-other m a (v / 65536) (b + 2) (near a (b + 2) (omega arith)))
     where

@@ -1,41 +1,30 @@
 -- What drawing a pixel, a row, a frame leaves, cell by cell: each pixel's cell is changed at most once, so whether a pixel is written
--- may be read off the memory before the drawing or at any time before its own turn.
-use Prim.Native.Nat.{ℕ, _≤_, _<_}
+-- may be read off the memory before the drawing or at any time before its own step.
+use Prim.Native.Nat.{ℕ, _≤_}
 use mathlib.Core.Path.{_≡_, refl, _∙_, ap}
-use mathlib.Core.Logic.{_≢_, inl, inr}
+use mathlib.Core.Logic.{inl, inr}
 use mathlib.Core.Bool.{Bool, true, false, _&&_}
 use mathlib.Core.List.{List}
 use native.Mathlib.Omega.{arith}
 use lib.ListN.{length}
-use lib.IntN.{pos, _+ℤ_, _*ℤ_}
 use lib.Dec.{leb}
 use borrow.Author.Tests.{ltb-true}
-use Rattle.ints.proofs.Modulo.{mod32-lt}
 use Rattle.rules.specs.declared.Screen.{Screen}
 use Rattle.rules.specs.declared.Triangle.{Triangle}
 use Rattle.rules.specs.Folds.{upto, choose}
 use Rattle.ram.specs.Ram.{loadHalf}
 use Rattle.rules.specs.Sizes.{width, height, putPixel}
-use Rattle.rules.specs.Triangles.{planeAt, topHalf, packed, covered, written, triangleColour, triangleDepth, pixelDrawn, rowDrawn, drawn}
+use Rattle.rules.specs.Triangles.{covered, written, triangleColour, triangleDepth, pixelDrawn, rowDrawn, drawn}
 use Rattle.rules.specs.Calls.{cleared}
 use Rattle.rules.proofs.Folds.{upto-keeps}
 use Rattle.ram.proofs.Halves.{joined}
 use Rattle.rules.proofs.Pixels.{On, Other, Sound, and-l, and-r, Cell, cell, painted, length-putPixel}
-use Rattle.rules.proofs.Memory.{Touched, Only, Row, Rows, touched-same, touched-put, row-of-steps, rows-of-steps}
+use Rattle.rules.proofs.Memory.{Touched, Only, Rows, touched-same, touched-put, rows-of-steps}
 
 -- a covered pixel is a pixel of the screen
 pub covered-on : (t : Triangle) {s : Screen} {x y : ℕ} → covered t s x y ≡ true → On s x y
 unfolding covered
 covered-on t e = search (and-l, and-r, ltb-true)
-
--- a triangle's colour and depth are half-words
-pub colour-small : (t : Triangle) (x y : ℕ) → triangleColour t x y < 65536
-unfolding triangleColour packed
-colour-small t x y = omega arith
-
-pub depth-small : (t : Triangle) (x y : ℕ) → triangleDepth t x y < 65536
-unfolding triangleDepth topHalf planeAt
-depth-small t x y = omega (arith, mod32-lt (t .depth .c +ℤ t .depth .a *ℤ pos x +ℤ t .depth .b *ℤ pos y))
 
 -- the lengths
 
@@ -89,10 +78,6 @@ module _ {n : ℕ} {s : Screen} (k : Sound n s) (t : Triangle) where
       go true e = touched-put k p (merged t s) m (triangleColour t x y) (triangleDepth t x y) l e
       go false e = touched-same k p (merged t s) m e
 
-  pub touched-row : (i y : ℕ) (m : List ℕ) → i ≤ width (s .size) → y < height (s .size) → length m ≡ n
-      → Touched s (merged t s) (Row i y) m (upto (pixelDrawn t s y) i m)
-  touched-row i y m a b l = row-of-steps n (pixelDrawn t s) touched-pixel i y m a b l
-
   pub touched-rows : (j : ℕ) (m : List ℕ)
       → j ≤ height (s .size)
       → length m ≡ n
@@ -132,15 +117,6 @@ module _ {n : ℕ} {s : Screen} (k : Sound n s) (t : Triangle) (m : List ℕ) (l
       not-only : {x y x′ y′ : ℕ} → Other x y x′ y′ → ¬ Only y x x′ y′
       not-only (inl d) e = d (e .0)
       not-only (inr d) e = d (e .1)
-
-  pub written-left : {i x y : ℕ} → On s x y → i ≤ x → written t s (upto (pixelDrawn t s y) i m) x y ≡ written t s m x y
-  written-left {i} {x} {y} p h =
-      written-kept t (touched-row k t i y m (omega (arith, p .across)) (p .down) l) p
-      (λ e. omega (arith, e .1, e .2 .0))
-
-  pub written-row : {i x y y′ : ℕ} → i ≤ width (s .size) → y < height (s .size) → On s x y′ → y′ ≢ y
-      → written t s (upto (pixelDrawn t s y) i m) x y′ ≡ written t s m x y′
-  written-row {i} {x} {y} a b p d = written-kept t (touched-row k t i y m a b l) p (λ e. d (e .2 .1))
 
   pub written-rows : {j x y : ℕ} → On s x y → j ≤ y → written t s (upto (rowDrawn t s) j m) x y ≡ written t s m x y
   written-rows {j} {x} {y} p h =

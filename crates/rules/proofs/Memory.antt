@@ -1,5 +1,5 @@
--- A memory pixel by pixel: two memories with equal cells and equal bytes outside are equal, and work that changes each pixel's cell
--- once, in turns, is known by its cells. A turn's pixels and those of the turns before are kept apart by a predicate on pixels.
+-- A memory pixel by pixel: two memories with equal cells and equal bytes outside are equal, and a fold that changes each pixel's cell
+-- once is known by its cells. A step's pixels and those of the steps before are kept apart by a predicate on pixels.
 use Prim.Native.Nat.{ℕ, zero, suc, _≤_, _<_}
 use mathlib.Core.Path.{_≡_, refl, sym, _∙_, ap}
 use mathlib.Core.Logic.{_⊎_, inl, inr, _↔_}
@@ -12,7 +12,8 @@ use Rattle.rules.specs.declared.Screen.{Screen}
 use Rattle.rules.specs.Folds.{upto}
 use Rattle.rules.specs.Sizes.{width, height, putPixel}
 use Rattle.ram.proofs.Halves.{bytes}
-use Rattle.rules.proofs.Pixels.{On, Other, ByteOf, Outside, Stands, in-colour, in-depth, outside, stands, other?, Sound, Cell, cell, painted, length-putPixel, cell-put-same, cell-put-other, byte-put-outside}
+use Rattle.rules.proofs.Pixels.{On, Other, Sound, ByteOf, Outside, Stands, in-colour, in-depth, outside, stands, other?}
+use Rattle.rules.proofs.Pixels.{Cell, cell, painted, length-putPixel, cell-put-same, cell-put-other, byte-put-outside}
 
 module _ (s : Screen) (l m : List ℕ) where
   same-byte : {a b : ℕ} → ByteOf a b → bytes l a ≡ bytes m a → getD l b 0 ≡ getD m b 0
@@ -37,7 +38,7 @@ pub record Touched (s : Screen) (g : ℕ → ℕ → Cell → Cell) (D : ℕ →
   pub kept : {x y : ℕ} → On s x y → ¬ D x y → cell s after x y ≡ cell s before x y
   pub beyond : {b : ℕ} → Outside s b → getD after b 0 ≡ getD before b 0
 
--- the pixels of the turns before turn k, where those of turn i are E i
+-- the pixels of the steps before step k, where those of step i are E i
 abbrev pub Below : (ℕ → ℕ → ℕ → Type 0) → ℕ → ℕ → ℕ → Type 0
 Below E k x y = (i : ℕ) × (i < k) × E i x y
 
@@ -71,7 +72,7 @@ module _ {s : Screen} {g : ℕ → ℕ → Cell → Cell} where
       go x y p (inl h) = e .kept p (n x y h) ∙ d .changed p h
       go x y p (inr h) = e .changed p h ∙ ap (g x y) (d .kept p (λ h′. n x y h′ h))
 
-  -- turn i touches the pixels of E i, and no pixel is touched in two turns
+  -- step i touches the pixels of E i, and no pixel is touched in two steps
   module _
       (n : ℕ)
       {E : ℕ → ℕ → ℕ → Type 0}
@@ -156,14 +157,3 @@ module _ {s : Screen} {g : ℕ → ℕ → Cell → Cell}
       touched-folds n (λ y. upto (step y) (width (s .size))) (λ i j x y d e. sym (d .2 .1) ∙ e .2 .1) h
       (λ y m b. row-of-steps (width (s .size)) y m (omega arith) (omega arith))
       m l
-
-pub touched-unique : {s : Screen} {g : ℕ → ℕ → Cell → Cell} {D : ℕ → ℕ → Type 0} {m k l : List ℕ}
-    → ((x y : ℕ) → On s x y → D x y)
-    → Touched s g D m k
-    → Touched s g D m l
-    → k ≡ l
-touched-unique {s} {k = k} {l = l} all a b =
-    same-memory s k l
-    (a .same-length ∙ sym (b .same-length))
-    (λ x y p. a .changed p (all x y p) ∙ sym (b .changed p (all x y p)))
-    (λ c o. a .beyond o ∙ sym (b .beyond o))

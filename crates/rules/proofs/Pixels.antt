@@ -1,19 +1,19 @@
 -- A pixel's two half-words as one cell: what stands in it, which byte of the RAM belongs to which pixel, and what writing a pixel leaves.
 -- Where the half-words stand is known by the laws of Strips alone.
-use Prim.Native.Nat.{ℕ, zero, suc, _+_, _*_, _/_, _%_, _<_}
-use mathlib.Core.Path.{_≡_, sym, _∙_, ap, subst}
+use Prim.Native.Nat.{ℕ, zero, suc, _+_, _<_}
+use mathlib.Core.Path.{_≡_, _∙_, subst}
 use mathlib.Core.Logic.{_⊎_, inl, inr}
 use mathlib.Core.List.{List}
 use native.Mathlib.Omega.{arith}
-use native.Mathlib.Nat.{mul-comm, zero-mul, eq-zero-or-pos, mod-lt, div-lt-iff-lt-mul}
 use native.Mathlib.Decide.{ℕ-discrete}
-use lib.Arith.{digits-lt, digits-div, digits-mod}
 use lib.ListN.{length, getD}
 use Rattle.rules.specs.declared.Screen.{Screen}
-use Rattle.ram.specs.Ram.{loadHalf, storeHalf}
+use Rattle.ram.specs.Ram.{storeHalf}
 use Rattle.rules.specs.Sizes.{width, height, colourAt, depthAt, putPixel}
-use Rattle.ram.proofs.Halves.{Apart, apart-sym, apart-ne, length-storeHalf, byte-stored-other, bytes-stored-same, bytes-stored-other, storeHalf-comm, Bytes, split, joined, joined-split, bytes}
-pub use Rattle.rules.proofs.Strips.{On, Other, Sound, and-l, and-r, sound-facts, width-le, height-le, colour-fits, depth-fits, colour-apart, depth-apart, colour-depth-apart, colour-leaf, depth-leaf}
+use Rattle.ram.proofs.Halves.{Apart, apart-sym, Bytes, split, bytes}
+use Rattle.ram.proofs.Halves.{length-storeHalf, byte-stored-other, bytes-stored-same, bytes-stored-other}
+pub use Rattle.rules.proofs.Strips.{On, Other, Sound, and-l, and-r, sound-facts, width-le, height-le, colour-fits, depth-fits}
+pub use Rattle.rules.proofs.Strips.{colour-apart, depth-apart, colour-depth-apart, colour-leaf, depth-leaf}
 
 -- b is a byte of the half-word at a
 abbrev pub ByteOf : ℕ → ℕ → Type 0
@@ -29,31 +29,6 @@ pub data Stands (s : Screen) (b : ℕ) : Type 0 where
   in-colour : {x y : ℕ} → On s x y → ByteOf (colourAt s x y) b → Stands s b
   in-depth : {x y : ℕ} → On s x y → ByteOf (depthAt s x y) b → Stands s b
   outside : Outside s b → Stands s b
-
-module _ {s : Screen} {x y : ℕ} (p : On s x y) where
-  pub pixel-index : y * width (s .size) + x < width (s .size) * height (s .size)
-  pixel-index = omega (arith, digits-lt (p .down) (p .across), mul-comm (width (s .size)) (height (s .size)))
-
-  pub index-row : (y * width (s .size) + x) / width (s .size) ≡ y
-  index-row = digits-div y (p .across)
-
-  pub index-column : (y * width (s .size) + x) % width (s .size) ≡ x
-  index-column = digits-mod y (p .across)
-
-pub index-pixel : (s : Screen) (i : ℕ)
-    → i < width (s .size) * height (s .size)
-    → On s (i % width (s .size)) (i / width (s .size))
-index-pixel s i l = go (eq-zero-or-pos (width (s .size)))
-  where
-    w : ℕ
-    w = width (s .size)
-
-    h : ℕ
-    h = height (s .size)
-
-    go : (w ≡ 0) ⊎ (0 < w) → On s (i % w) (i / w)
-    go (inl e) = absurd (omega (arith, ap (λ k. k * h) e, zero-mul h))
-    go (inr p) = record { across = mod-lt i p; down = div-lt-iff-lt-mul p .1 (omega (arith, mul-comm w h)) }
 
 -- a search among the first n
 some-below : (P : ℕ → Type 0) → ((i : ℕ) → Dec (P i)) → (n : ℕ) → Dec ((i : ℕ) × (i < n) × P i)
@@ -107,26 +82,6 @@ other? x y x′ y′ = go (ℕ-discrete x′ x) (ℕ-discrete y′ y)
     go (yes e) (no f) = inr (inr f)
     go (no e) f = inr (inl e)
 
-one-pixel : {x y x′ y′ a a′ b : ℕ} → (Other x y x′ y′ → Apart a a′) → ByteOf a b → ByteOf a′ b → (x′ ≡ x) × (y′ ≡ y)
-one-pixel {x} {y} {x′} {y′} {a} {a′} {b} f o o′ = go (other? x y x′ y′)
-  where
-    never : Apart a a′ → ByteOf a b → ByteOf a′ b → ⊥
-    never h (inl e) (inl e′) = omega (arith, apart-ne h)
-    never h (inl e) (inr e′) = omega (arith, apart-ne h)
-    never h (inr e) (inl e′) = omega (arith, apart-ne h)
-    never h (inr e) (inr e′) = omega (arith, apart-ne h)
-
-    go : ((x′ ≡ x) × (y′ ≡ y)) ⊎ Other x y x′ y′ → (x′ ≡ x) × (y′ ≡ y)
-    go (inl e) = e
-    go (inr d) = absurd (never (f d) o o′)
-
-module _ {n : ℕ} {s : Screen} {x y x′ y′ b : ℕ} (k : Sound n s) (p : On s x y) (p′ : On s x′ y′) where
-  pub one-colour : ByteOf (colourAt s x y) b → ByteOf (colourAt s x′ y′) b → (x′ ≡ x) × (y′ ≡ y)
-  one-colour = one-pixel (colour-apart k p p′)
-
-  pub one-depth : ByteOf (depthAt s x y) b → ByteOf (depthAt s x′ y′) b → (x′ ≡ x) × (y′ ≡ y)
-  one-depth = one-pixel (depth-apart k p p′)
-
 -- a pixel's four bytes as they stand in the memory
 pub record Cell : Type 0 where
   pub colour : Bytes
@@ -161,14 +116,6 @@ module _ {n : ℕ} {s : Screen} (k : Sound n s) {x y : ℕ} (p : On s x y) (c d 
       depth : bytes (storeHalf m₁ (depthAt s x y) d) (depthAt s x y) ≡ split d
       depth = bytes-stored-same m₁ (depthAt s x y) d (rw (length-storeHalf m (colourAt s x y) c ∙ l) (depth-fits k p))
 
-  pub colour-put-same : length m ≡ n → loadHalf (putPixel s x y c d m) (colourAt s x y) ≡ c
-  unfolding loadHalf
-  colour-put-same l = ap (λ z. joined (z .colour)) (cell-put-same l) ∙ joined-split c
-
-  pub depth-put-same : length m ≡ n → loadHalf (putPixel s x y c d m) (depthAt s x y) ≡ d
-  unfolding loadHalf
-  depth-put-same l = ap (λ z. joined (z .depth)) (cell-put-same l) ∙ joined-split d
-
   pub byte-put-outside : {b : ℕ} → Outside s b → getD (putPixel s x y c d m) b 0 ≡ getD m b 0
   unfolding putPixel
   byte-put-outside {b} o =
@@ -188,26 +135,3 @@ module _ {n : ℕ} {s : Screen} (k : Sound n s) {x y : ℕ} (p : On s x y) (c d 
       colour = kept (colourAt s x′ y′) (colour-apart k p p′ o) (apart-sym (colour-depth-apart k p′ p)) i;
       depth = kept (depthAt s x′ y′) (colour-depth-apart k p p′) (depth-apart k p p′ o) i;
     }
-
-    pub colour-put-other : loadHalf (putPixel s x y c d m) (colourAt s x′ y′) ≡ loadHalf m (colourAt s x′ y′)
-    unfolding loadHalf
-    colour-put-other = ap (λ z. joined (z .colour)) cell-put-other
-
-    pub depth-put-other : loadHalf (putPixel s x y c d m) (depthAt s x′ y′) ≡ loadHalf m (depthAt s x′ y′)
-    unfolding loadHalf
-    depth-put-other = ap (λ z. joined (z .depth)) cell-put-other
-
-    pub putPixel-comm : (c′ d′ : ℕ)
-        → putPixel s x y c d (putPixel s x′ y′ c′ d′ m) ≡ putPixel s x′ y′ c′ d′ (putPixel s x y c d m)
-    unfolding putPixel
-    putPixel-comm c′ d′ =
-        let a : ℕ = colourAt s x y in
-        let b : ℕ = depthAt s x y in
-        let a′ : ℕ = colourAt s x′ y′ in
-        let b′ : ℕ = depthAt s x′ y′ in
-        ap (λ l. storeHalf l b d)
-        (sym (storeHalf-comm (storeHalf m a′ c′) a c b′ d′ (colour-depth-apart k p p′))
-        ∙ ap (λ l. storeHalf l b′ d′) (sym (storeHalf-comm m a c a′ c′ (colour-apart k p p′ o))))
-        ∙ sym (storeHalf-comm (storeHalf (storeHalf m a c) a′ c′) b d b′ d′ (depth-apart k p p′ o))
-        ∙ ap (λ l. storeHalf l b′ d′)
-        (sym (storeHalf-comm (storeHalf m a c) b d a′ c′ (apart-sym (colour-depth-apart k p′ p))))

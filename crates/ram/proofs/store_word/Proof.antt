@@ -2,8 +2,7 @@
 use Prim.Native.Nat.{_+_, _%_}
 use mathlib.Core.Path.{_∙_, ap}
 use borrow.Author.Needs.{needs}
-use Rattle.ram.specs.Ram.{storeHalf}
-use Rattle.ram.specs.Ram.{storeWord}
+use Rattle.ram.specs.Ram.{storeHalf, storeWord}
 use Rattle.ram.proofs.store_word.Statement.{statement}
 use Rattle.ram.proofs.store_word.Tie as tie
 
@@ -22,9 +21,10 @@ same-length c = search needs
 returns : tie.Need-returns
 unfolding storeWord
 returns c =
-    let a = c .before .before .before .before .before .before .before .before .before .args in
-    c .before .before .store-half2 .ensures
-    ∙ ap (λ m. storeHalf m (a .a + 2) (a .v % 65536)) (c .before .before .before .before .before .before .store-half .ensures)
+    let second = c .before .before in
+    let first = second .before .before .before .before in
+    let a = first .before .before .before .args in
+    second .store-half2 .ensures ∙ ap (λ m. storeHalf m (a .a + 2) (a .v % 65536)) (first .store-half .ensures)
 
 pub store-word-spec : {M : Type 1} → statement M
 store-word-spec =

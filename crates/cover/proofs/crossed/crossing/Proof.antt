@@ -1,17 +1,18 @@
 -- The rising value, scaled, is within 64 bits, and its quotient has one rounding.
 use Prim.Native.Nat.{_+_}
-use mathlib.Core.Path.{_≡_, _∙_, ap, subst₂}
+use mathlib.Core.Path.{_≡_, _∙_, ap, ap₂, subst₂}
 use native.Mathlib.Omega.{arith}
-use lib.IntN.{natAbs, _*ℤ_}
+use lib.IntN.{ℤ, natAbs, _*ℤ_}
 use mir.Syntax.{w64}
 use mir.Val.{toZ, ofZ}
 use Rattle.ints.proofs.Machine.{Code, word-of, need, reads-as, size-of}
-use Rattle.rules.specs.Triangles.{Edge, dy}
+use Rattle.rules.specs.Triangles.{Edge, dy, edgeValue, sample}
 use Rattle.cover.specs.Units.{raise, Rounded}
 use Rattle.edges.specs.Edges.{edgeFrom}
-use Rattle.cover.specs.Side.{rising, across, scale}
-use Rattle.edges.proofs.Within.{EdgeWithin, edge-within, read-edge, read-in-range}
+use Rattle.cover.specs.Side.{risingValue, rising, across, scale}
+use Rattle.edges.proofs.Within.{EdgeWithin, edge-within, read-in-range}
 use Rattle.edges.proofs.Codes as code
+use Rattle.edges.proofs.Codes.{answeredC, answered}
 use Rattle.cover.proofs.Signs.{scaled-read}
 use Rattle.cover.proofs.Quotients.{rounded-more}
 use Rattle.cover.proofs.Crossing.{rising-within, scaled-within}
@@ -24,8 +25,20 @@ edge c = edgeFrom (c .args .x1) (c .args .y1) (c .args .x2) (c .args .y2)
 in-range : (c : tie.Start) → EdgeWithin (edge c)
 in-range c = edge-within (edge c) (c .pre .0)
 
+abbrev dxC : tie.Start → Code w64
+dxC c = code.dxC (edge c) (in-range c)
+
 abbrev dyC : tie.Start → Code w64
 dyC c = code.dyC (edge c) (in-range c)
+
+cast-dx : tie.Need-cast-dx
+cast-dx c = need (code.x2C (edge c) (in-range c)) tt
+
+cast-dx-2 : tie.Need-cast-dx-2
+cast-dx-2 c = need (code.x1C (edge c) (in-range c)) tt
+
+sub-dx : tie.Need-sub-dx
+sub-dx c = need (dxC c) tt
 
 cast-dy : tie.Need-cast-dy
 cast-dy c = need (code.y2C (edge c) (in-range c)) tt
@@ -36,36 +49,66 @@ cast-dy-2 c = need (code.y1C (edge c) (in-range c)) tt
 sub-dy : tie.Need-sub-dy
 sub-dy c = need (dyC c) tt
 
-rising-value-requires : tie.Need-rising-value-requires
-rising-value-requires c κs = (read-in-range (edge c) (c .pre .0), c .pre .1)
+edge-value-requires : tie.Need-edge-value-requires
+edge-value-requires c κs = (read-in-range (edge c) (c .pre .0), omega arith, c .pre .1)
 
-is-rising : (c : tie.After-rising-value) → c .rising-value .result ≡ rising (edge (c .before)) 0 (c .before .args .y)
-is-rising c =
+valued : (c : tie.After-edge-value) → let s = c .before in c .edge-value .result ≡ edgeValue (edge s) (sample 0 (s .args .y))
+valued c = let s = c .before in answered (edge s) (sample 0 (s .args .y)) (s .pre .0) (c .edge-value .ensures)
+
+abbrev valueC : tie.After-edge-value → Code w64
+valueC c =
     let s = c .before in
-    c .rising-value .ensures ∙ ap (λ (e : Edge). rising e 0 (s .args .y)) (read-edge (edge s) (s .pre .0))
+    answeredC (edge s) (in-range s) 0 (s .args .y) (omega arith) (s .pre .1) (c .edge-value .result) (valued c)
+
+rising-value-requires : tie.Need-rising-value-requires
+rising-value-requires c κs = size-of (valueC c) tt
+
+is-rising : (c : tie.After-rising-value) →
+    let s = c .before .before in
+    c .rising-value .result ≡ rising (edge s) 0 (s .args .y)
+is-rising c =
+    let s = c .before .before in
+    c .rising-value .ensures
+    ∙ ap (λ (v : ℤ). risingValue v (toZ w64 (word-of (dxC s))) (toZ w64 (word-of (dyC s))))
+    (reads-as (valueC (c .before)) tt ∙ valued (c .before))
+    ∙ ap₂ (risingValue (edgeValue (edge s) (sample 0 (s .args .y)))) (reads-as (dxC s) tt) (reads-as (dyC s) tt)
 
 -- as `in_ticks` reads both
 is-scaled : (c : tie.After-rising-value) →
-    let s = c .before in
+    let s = c .before .before in
     scale (toZ w64 (word-of (dyC s))) *ℤ toZ w64 (ofZ w64 (c .rising-value .result)) ≡ scale (dy (edge s)) *ℤ rising (edge s) 0 (s .args .y)
 is-scaled c =
-    let s = c .before in
+    let s = c .before .before in
     scaled-read (dyC s) tt (is-rising c) (rising-within (edge s) (in-range s) (s .args .y) (s .pre .1)) (omega arith)
 
 in-ticks-requires : tie.Need-in-ticks-requires
 in-ticks-requires c κs =
-    let s = c .before in
+    let s = c .before .before in
     let n = ap natAbs (is-scaled c) in
     let w = scaled-within (edge s) (in-range s) (s .args .y) (s .pre .1) in
     (size-of (dyC s) tt, record { fits = omega (arith, n, w .within); below = omega (arith, n, w .within); most = omega arith })
 
 returns : tie.Need-returns
 returns c =
-    let s = c .before .before in
+    let s = c .before .before .before in
     rounded-more
-    (subst₂ (λ z a. Rounded z a raise 1 (c .in-ticks .result)) (is-scaled (c .before)) (ap across (reads-as (dyC s) tt)) (c .in-ticks .ensures))
+    (subst₂ (λ z a. Rounded z a raise 1 (c .in-ticks .result))
+    (is-scaled (c .before))
+    (ap across (reads-as (dyC s) tt))
+    (c .in-ticks .ensures))
     (s .args .y + 1) (omega arith)
 
 pub crossing-spec : {M : Type 1} → statement M
 crossing-spec =
-    tie.close (tie.spec cast-dy cast-dy-2 sub-dy rising-value-requires in-ticks-requires returns)
+    tie.close
+    (tie.spec
+    cast-dx
+    cast-dx-2
+    sub-dx
+    cast-dy
+    cast-dy-2
+    sub-dy
+    edge-value-requires
+    rising-value-requires
+    in-ticks-requires
+    returns)

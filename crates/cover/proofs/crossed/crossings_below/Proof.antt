@@ -25,7 +25,9 @@ sub-t8 c = search needs
 
 returns : tie.Need-returns
 returns c t y o h =
-    let s = c .before .before .before .before .before .before in
+    let second = c .before .before in
+    let first = second .before .before in
+    let s = first .before .before in
     let d = s .args .d in
     let m = s .args .m in
     record {

@@ -1,4 +1,5 @@
--- Where the least raised number is below 8,192 nothing is claimed; else as many rows as it has whole pixels past 8,192 have their sample points before all three.
+-- Where the least raised number is below 8,192 nothing is claimed; else as many rows as it has whole pixels past 8,192 have their sample
+-- points before all three.
 use Prim.Native.Nat.{_+_, _*_, _-_, _<_}
 use native.Mathlib.Omega.{arith}
 use borrow.Author.Needs.{needs}
@@ -27,14 +28,15 @@ returns c k h = absurd (omega arith)
 
 returns-2 : tie.Need-returns-2
 returns-2 c k h =
-    let s = c .before .before .before .before .before in
+    let third = c .before .before in
+    let s = third .before .before .before in
     let l = c .before .least in
     let n = 8199 - sampleOffset in
     let m : sampleOffset + n + 8 * k < l .result = omega (arith, h, c .if1 .left) in
     record {
-      first = before-raised n (s .fits .a) (c .before .before .before .before .raised .ensures) k (l .ensures .0) m;
-      second = before-raised n (s .fits .b) (c .before .before .before .raised2 .ensures) k (l .ensures .1) m;
-      third = before-raised n (s .fits .c) (c .before .before .raised3 .ensures) k (l .ensures .2) m;
+      first = before-raised n (s .fits .a) (third .before .before .raised .ensures) k (l .ensures .0) m;
+      second = before-raised n (s .fits .b) (third .before .raised2 .ensures) k (l .ensures .1) m;
+      third = before-raised n (s .fits .c) (third .raised3 .ensures) k (l .ensures .2) m;
     }
 
 pub first-touched-spec : {M : Type 1} → statement M

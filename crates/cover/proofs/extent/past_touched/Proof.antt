@@ -26,7 +26,8 @@ greatest-requires c κs = search needs
 abbrev start : tie.After-greatest → tie.Start
 start c = c .before .before .before .before
 
-beyond : (c : tie.After-greatest) (k : ℕ) → c .greatest .result < 8200 + 8 * k → Beyond (start c .args .a) (start c .args .b) (start c .args .c) k
+beyond : (c : tie.After-greatest) (k : ℕ) → c .greatest .result < 8200 + 8 * k
+    → Beyond (start c .args .a) (start c .args .b) (start c .args .c) k
 beyond c k h =
     let s = start c in
     let g = c .greatest in

@@ -1,5 +1,4 @@
 -- The number is within 8,192 either way and it is raised by as much at least, so the sum is a natural number.
-use Prim.Native.Nat.{_+_, _≤_}
 use mathlib.Core.List.{List, [], _∷_}
 use native.Mathlib.Omega.{arith}
 use lib.IntN.{ℤ, pos, negℤ, _+ℤ_}

@@ -75,7 +75,11 @@ returns : tie.Need-returns
 returns c =
     let s = c .before .before in
     record {
-      is-down = subst₂ (λ z a. Rounded z a lift 1 (c .in-ticks .result)) (is-scaled (c .before)) (ap across (reads-as (dyC s) tt)) (c .in-ticks .ensures);
+      is-down =
+          subst₂ (λ z a. Rounded z a lift 1 (c .in-ticks .result))
+          (is-scaled (c .before))
+          (ap across (reads-as (dyC s) tt))
+          (c .in-ticks .ensures);
       is-ends = sym (code-above (dyC s) tt refl);
     }
 

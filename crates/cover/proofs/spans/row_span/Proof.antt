@@ -1,4 +1,4 @@
--- The two folds are the last beginning and the first end; whether they leave a run is their test.
+-- Of the three edges, the last beginning and the first end; whether they leave a span is their test.
 use Prim.Native.Nat.{ℕ, _+_, _*_, _≤_, _<_}
 use mathlib.Core.Path.{_≡_, sym, _∙_, ap, subst₂}
 use native.Mathlib.Omega.{arith}
@@ -33,39 +33,41 @@ end-requires-2 c κs = search needs
 end-requires-3 : tie.Need-end-requires-3
 end-requires-3 c κs = search needs
 
-least : (c : tie.After-end3) →
-    let a = c .before .before .before .before .before .before .args in
-    c .before .before .before .begin3 .result ≡ leastOf (a .m) (a .d)
-least c =
-    let a = c .before .before .before .before .before .before .args in
-    c .before .before .before .begin3 .ensures
-    ∙ ap (begin (a .m .p) (a .d .p .ends))
-    (c .before .before .before .before .begin2 .ensures
-    ∙ ap (begin (a .m .q) (a .d .q .ends)) (c .before .before .before .before .before .begin .ensures))
+-- from the last end, where the beginnings are known, and the start
+abbrev begun : tie.After-end3 → tie.After-begin3
+begun c = c .before .before .before
 
-most : (c : tie.After-end3) →
-    let a = c .before .before .before .before .before .before .args in
-    c .end3 .result ≡ mostOf (a .m) (a .d) (a .w)
+abbrev start : tie.After-end3 → tie.Start
+start c = begun c .before .before .before
+
+least : (c : tie.After-end3) → begun c .begin3 .result ≡ leastOf (start c .args .m) (start c .args .d)
+least c =
+    let a = start c .args in
+    begun c .begin3 .ensures
+    ∙ ap (begin (a .m .p) (a .d .p .ends))
+    (begun c .before .begin2 .ensures
+    ∙ ap (begin (a .m .q) (a .d .q .ends)) (begun c .before .before .begin .ensures))
+
+most : (c : tie.After-end3) → c .end3 .result ≡ mostOf (start c .args .m) (start c .args .d) (start c .args .w)
 most c =
-    let a = c .before .before .before .before .before .before .args in
+    let a = start c .args in
     c .end3 .ensures
     ∙ ap (end (a .m .p) (a .d .p .ends))
     (c .before .end2 .ensures ∙ ap (end (a .m .q) (a .d .q .ends)) (c .before .before .end .ensures))
 
 returns : tie.Need-returns
 returns c t y v i o h =
-    let s = c .before .before .before .before .before .before .before in
+    let s = start (c .before) in
     span-none t y v i (s .args .d) (s .args .m) o h (s .args .w) (s .pre)
     (omega (arith, least (c .before), most (c .before), c .if1 .taken))
 
 -- the beginning is before the end, and so both are columns of the screen
 near : (c : tie.Else1) →
     let e = c .before in
-    (e .before .before .before .begin3 .result ≤ raise) × (e .end3 .result < e .before .before .before .begin3 .result)
-    × (raise ≤ e .end3 .result + unit * 640)
+    (begun e .begin3 .result ≤ raise) × (e .end3 .result < begun e .begin3 .result) × (raise ≤ e .end3 .result + unit * 640)
 near c =
-    let a = c .before .before .before .before .before .before .before .args in
-    let p = c .before .before .before .before .before .before .before .pre in (
+    let a = start (c .before) .args in
+    let p = start (c .before) .pre in (
       omega (arith, least (c .before), least-le (a .m) (a .d)),
       omega (arith, c .if1 .left),
       omega (arith, most (c .before), most-ge (a .m) (a .d) (a .w), p),
@@ -80,7 +82,7 @@ column-requires-2 c κs = (omega (arith, near (c .before)), near (c .before) .2)
 returns-2 : tie.Need-returns-2
 returns-2 c t y v i o h =
     let e = c .before .before .before in
-    let s = e .before .before .before .before .before .before in
+    let s = start e in
     subst₂ (λ (f g : ℕ). RowSpan t y (s .args .w) (record { from = f; to = g }))
     (sym (c .before .column .ensures ∙ ap column (least e)))
     (sym (c .column2 .ensures ∙ ap column (most e)))

@@ -30,13 +30,16 @@ up-natural c =
 
 down-natural : (c : tie.Then2) → pos 0 ≤ℤ (pos 0 -ℤ pos 8 *ℤ c .before .before .args .dy)
 down-natural c =
-    let z = c .before .before .args .dy in
+    let s = c .before .before in
+    let z = s .args .dy in
     let ρ : List ℤ = z ∷ [] in
     le-of ρ (con (pos 0)) (con (pos 0) ⊖ con (pos 8) ⊗ var 0)
-    (omega (arith, lt-to ρ (var 0) (con (pos 0)) (ltZ-true z (pos 0) (below z ∙ read-below z (c .before .before .fits .dy) (c .if2 .taken)))))
+    (omega (arith, lt-to ρ (var 0) (con (pos 0)) (ltZ-true z (pos 0) (below z ∙ read-below z (s .fits .dy) (c .if2 .taken)))))
 
 abs-down : (z : ℤ) → natAbs (pos 0 -ℤ pos 8 *ℤ z) ≡ 8 * natAbs z
-abs-down z = ap natAbs (solve (z ∷ []) (con (pos 0) ⊖ con (pos 8) ⊗ var 0) (neg (con (pos 8) ⊗ var 0)) tt) ∙ abs-neg (pos 8 *ℤ z) ∙ abs-mul (pos 8) z
+abs-down z =
+    ap natAbs (solve (z ∷ []) (con (pos 0) ⊖ con (pos 8) ⊗ var 0) (neg (con (pos 8) ⊗ var 0)) tt)
+    ∙ abs-neg (pos 8 *ℤ z) ∙ abs-mul (pos 8) z
 
 mul-result : tie.Need-mul-result
 mul-result c = need (up (c .before)) tt

@@ -59,7 +59,10 @@ rounded-up-requires c κs =
 returns : tie.Need-returns
 returns c =
     let s = c .before .before .before in
-    subst₂ (λ z a. Rounded z a (s .args .r) 1 (c .rounded-up .result)) (product (c .before .before) .got .reads) (is-across (c .before)) (c .rounded-up .ensures)
+    subst₂ (λ z a. Rounded z a (s .args .r) 1 (c .rounded-up .result))
+    (product (c .before .before) .got .reads)
+    (is-across (c .before))
+    (c .rounded-up .ensures)
 
 pub in-ticks-spec : {M : Type 1} → statement M
 in-ticks-spec = tie.close (tie.spec scale-requires mul-rounded-up across-requires rounded-up-requires returns)

@@ -24,8 +24,9 @@ unfolding edgeTooLarge
 returns c =
     let s = c .before in
     let at = sample (s .args .x) (s .args .y) in
+    let w = edge-within (edge s) (s .pre .0) in
     let z = answered (edge s) at (s .pre .0) (c .edge-value .ensures) in
-    let v = answeredC (edge s) (edge-within (edge s) (s .pre .0)) (s .args .x) (s .args .y) (s .pre .1) (s .pre .2) (c .edge-value .result) z in
+    let v = answeredC (edge s) w (s .args .x) (s .args .y) (s .pre .1) (s .pre .2) (c .edge-value .result) z in
     ap (λ (z : ℤ). ltZ z (negsuc 2147483647) || ltZ (pos 2147483647) z) (reads-as v tt ∙ z)
     ∙ sym (out-of-range (edgeValue (edge s) at))
 

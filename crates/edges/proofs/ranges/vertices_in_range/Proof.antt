@@ -37,13 +37,23 @@ point-in-range-requires-2 c κs = tt
 point-in-range-requires-3 : tie.Need-point-in-range-requires-3
 point-in-range-requires-3 c κs = tt
 
+-- where a point's two numbers are read from: the start, and the calls of the points before
+abbrev start : tie.After-point-in-range → tie.Start
+start c = c .before .before .before
+
+abbrev first : tie.After-point-in-range2 → tie.After-point-in-range
+first c = c .before .before .before
+
+abbrev second : tie.After-point-in-range3 → tie.After-point-in-range2
+second c = c .before .before .before
+
 returns : tie.Need-returns
 returns c =
-    let t = c .before .before .before .before .before .before .before .before .before .args .v in
+    let t = start (first (second c)) .args .v in
     ap₂ _&&_
     (ap₂ _&&_
-    (c .before .before .before .before .before .before .point-in-range .ensures ∙ read (t .x1) (t .y1) (omega arith) (omega arith))
-    (c .before .before .before .point-in-range2 .ensures ∙ read (t .x2) (t .y2) (omega arith) (omega arith)))
+    (first (second c) .point-in-range .ensures ∙ read (t .x1) (t .y1) (omega arith) (omega arith))
+    (second c .point-in-range2 .ensures ∙ read (t .x2) (t .y2) (omega arith) (omega arith)))
     (c .point-in-range3 .ensures ∙ read (t .x3) (t .y3) (omega arith) (omega arith))
     ∙ points t
 
