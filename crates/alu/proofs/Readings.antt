@@ -1,4 +1,5 @@
--- A word's signed reading, held in 64 bits: what moving up and down by 2^31 gives, within 2^31, and 0 for 0 alone. By cases on the test below 2^31.
+-- A word's signed reading, held in 64 bits: what moving up and down by 2^31 gives, within 2^31, and 0 for 0 alone. By cases on the
+-- test below 2^31.
 use Prim.Native.Nat.{ℕ, suc, _+_, _-_, _%_, _<_, _≤_}
 use mathlib.Core.Path.{_≡_, refl, sym, ap, subst}
 use mathlib.Core.Bool.{Bool, true, false}
@@ -27,7 +28,9 @@ module _ (v : ℕ) (f : Fits w32 v) where
       around : 2147483648 ≤ v → (v + 2147483648) % 4294967296 ≡ v - 2147483648
       around l = omega arith
 
-      go : (t : Bool) → ltb v 2147483648 ≡ t → pos ((v + 2147483648) % 4294967296) -ℤ pos 2147483648 ≡ sel t (pos v) (negsuc (4294967296 - suc v))
+      go : (t : Bool)
+          → ltb v 2147483648 ≡ t
+          → pos ((v + 2147483648) % 4294967296) -ℤ pos 2147483648 ≡ sel t (pos v) (negsuc (4294967296 - suc v))
       go true e = rw (up (ltb-true v 2147483648 e), le-ltb (v + 2147483648) 2147483648 (omega arith)) (ap pos (omega arith))
       go false e =
           let l : 2147483648 ≤ v = ltb-false v 2147483648 e in

@@ -1,10 +1,10 @@
 // A client of the drawing: a screen cleared and two triangles drawn on it, by calls. Its proofs stand on published promises alone.
 use draw::triangles::draw;
+use reader::row_check;
 use rules::Screen;
 use rules::Triangle;
 use rules::Vertices;
 use screen::clear::clear;
-use screen::rows::row_check;
 ghost use mathlib.Core.Path.{_≡_};
 ghost use mathlib.Core.Bool.{true};
 ghost use lib.ListN.{length};

@@ -71,7 +71,7 @@ fn digits(part: &[u8]) -> [u8; 17]
 fn show(ram: &[u8], s: Screen) {
     let mut y: u32 = 0;
     while y < 4 {
-        let line = digits(screen::rows::row(ram, s, y));
+        let line = digits(reader::row(ram, s, y));
         io::write_all(STDOUT_FILENO, &line);
         y += 1;
     }

@@ -1,5 +1,5 @@
--- No second outcome meets what the machine's calls over a lent state promise: the state after is a value of the inputs, and so is what C has
--- of it.
+-- No second outcome meets what the machine's calls over a lent state promise: the state after is a value of the inputs, and so is
+-- what C has of it.
 use Prim.Native.Nat.{ℕ}
 use mathlib.Core.Path.{_≡_, sym, _∙_, ap, ap₂}
 use mathlib.Core.List.{List}

@@ -19,7 +19,8 @@ pub record Lends (r : LentState) : Type 0 where
 abbrev pub answered : ℕ → LentState → State → LentState
 answered number given after = choose (eqb number 0) (lentState after) given
 
-pub record RunsLent (program : List ℕ) (budget : ℕ) (given : LentState) (memory ram : List ℕ) (r : LentRan) (memoryAfter ramAfter : List ℕ) : Type 0 where
+pub record RunsLent (program : List ℕ) (budget : ℕ) (given : LentState) (memory ram : List ℕ) (r : LentRan)
+    (memoryAfter ramAfter : List ℕ) : Type 0 where
   pub after : State
   pub runs : Runs program budget (together (stateOf given) memory ram) (r .number) (r .steps) (together after memoryAfter ramAfter)
   pub answers : r .state ≡ answered (r .number) given after

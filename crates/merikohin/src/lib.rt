@@ -4,13 +4,13 @@ use border::lent_state;
 use border::state_of;
 use machine::calls::machine_number;
 use machine::calls::run_machine;
+use reader::RowPart;
 use rules::Drawn;
 use rules::Screen;
 use rules::Triangle;
-use screen::rows::RowPart;
 ghost use lib.ListN.{length};
 ghost use Rattle.rules.specs.Calls.{Clears, Draws};
-ghost use Rattle.screen.specs.Rows.{Checks, Locates};
+ghost use Rattle.reader.specs.Rows.{Checks, Locates};
 ghost use Rattle.merikohin.specs.Lends.{Lends, RunsLent};
 
 #[no_mangle]
@@ -31,14 +31,14 @@ pub extern "C" fn merikohin_draw(ram: &mut [u8], s: Screen, t: Triangle) -> Draw
 pub extern "C" fn merikohin_row_check(ram: &[u8], s: Screen, row: u32) -> u32
     ensures { λ r. ⌜ Checks (length (now (ram .entry))) s row r ⌝ }
 {
-    screen::rows::row_check(ram, s, row)
+    reader::row_check(ram, s, row)
 }
 
 #[no_mangle]
 pub extern "C" fn merikohin_row(ram: &[u8], s: Screen, row: u32) -> RowPart
     ensures { λ r. ⌜ Locates (length (now (ram .entry))) s row r ⌝ }
 {
-    screen::rows::row_part(ram, s, row)
+    reader::row_part(ram, s, row)
 }
 
 // What a run answers: its number, the steps carried out, and the state.

@@ -1,4 +1,3 @@
-// The screen in lent memory: sizes and soundness, the clear, and the row reader.
+// The screen in lent memory: sizes and soundness, the clear.
 pub mod clear;
-pub mod rows;
 pub mod sizes;

@@ -13,5 +13,7 @@ use Rattle.instructions.specs.Run.{freshState}
 use Rattle.starred.specs.Table.{starred}
 
 pub starred-hold : map (λ c. c .gives) starred ≡ map (λ c. c .says) starred
-unfolding starred pixels howMany covered insideAll inside keepsZero edgeValue sample freshState step performed effect afterResult withFlags withPlace withRegisters haltNumber wordHalt outsideData moveOutsideData moveOutsideRam noScreen noTree nextPlace result value dot roundedProduct reciprocal immediate shiftedSigned shiftAmount address signExtended withRegister mod32
+unfolding starred pixels howMany covered insideAll inside keepsZero edgeValue sample freshState step performed effect afterResult
+    withFlags withPlace withRegisters haltNumber wordHalt outsideData moveOutsideData moveOutsideRam noScreen noTree nextPlace result
+    value dot roundedProduct reciprocal immediate shiftedSigned shiftAmount address signExtended withRegister mod32
 starred-hold = refl

@@ -16,14 +16,21 @@ screen16by4 = record { colour = 0; depth = 128; size = 516 }
 abbrev pub noPlane : Plane
 noPlane = record { c = pos 0; a = pos 0; b = pos 0 }
 
-abbrev pub corners : ℕ → ℕ → ℕ → ℕ → ℕ → ℕ → Triangle
-corners x1 y1 x2 y2 x3 y3 = record {
-  vertices = record { x1 = pos x1; y1 = pos y1; x2 = pos x2; y2 = pos y2; x3 = pos x3; y3 = pos y3 };
-  depth = noPlane;
-  red = noPlane;
-  green = noPlane;
-  blue = noPlane;
+-- three vertices, then depth, red, green and blue
+abbrev pub triangle : ℤ → ℤ → ℤ → ℤ → ℤ → ℤ → Plane → Plane → Plane → Plane → Triangle
+triangle x1 y1 x2 y2 x3 y3 depth red green blue = record {
+  vertices = record { x1 = x1; y1 = y1; x2 = x2; y2 = y2; x3 = x3; y3 = y3 };
+  depth = depth;
+  red = red;
+  green = green;
+  blue = blue;
 }
+
+abbrev pub vertices : ℤ → ℤ → ℤ → ℤ → ℤ → ℤ → Triangle
+vertices x1 y1 x2 y2 x3 y3 = triangle x1 y1 x2 y2 x3 y3 noPlane noPlane noPlane noPlane
+
+abbrev pub corners : ℕ → ℕ → ℕ → ℕ → ℕ → ℕ → Triangle
+corners x1 y1 x2 y2 x3 y3 = vertices (pos x1) (pos y1) (pos x2) (pos y2) (pos x3) (pos y3)
 
 -- how many pixels of the screen the triangle covers, and how many both cover
 abbrev pub covers : Triangle → ℤ

@@ -20,7 +20,8 @@ number-of-requires-4 c κs = search needs
 
 returns : tie.Need-returns
 returns c =
-    let s = c .before .before .before .before .before .before .before .before .args .state in
+    let tree = c .before .before .before .before in
+    let s = tree .before .before .before .before .args .state in
     λ i. record {
       regs = s .regs;
       place = s .place;
@@ -30,7 +31,7 @@ returns c =
       shown = c .before .number-of3 .ensures i;
       screen = s .screen;
       planted = c .number-of4 .ensures i;
-      tree = c .before .before .before .before .lent-tree .ensures i;
+      tree = tree .lent-tree .ensures i;
     }
 
 pub lent-state-spec : {M : Type 1} → statement M

@@ -14,11 +14,12 @@ number-of-requires c κs = search needs
 
 returns : tie.Need-returns
 returns c =
-    let t = c .before .before .before .before .before .before .before .args .tree in
+    let marks = c .before .before .before .before in
+    let t = marks .before .before .before .args .tree in
     λ i. record {
       column = t .column;
       row = t .row;
-      inside = c .before .before .before .before .bytes-of .ensures i;
+      inside = marks .bytes-of .ensures i;
       outside = c .before .before .before .bytes-of2 .ensures i;
       colour = t .colour;
       depth = t .depth;

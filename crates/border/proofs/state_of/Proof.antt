@@ -9,7 +9,8 @@ tree-of-requires c κs = search needs
 
 returns : tie.Need-returns
 returns c =
-    let l = c .before .before .before .before .before .before .before .before .args .lent in
+    let tree = c .before .before .before .before in
+    let l = tree .before .before .before .before .args .lent in
     λ i. record {
       regs = l .regs;
       place = l .place;
@@ -19,7 +20,7 @@ returns c =
       shown = isYes (l .shown);
       screen = l .screen;
       planted = isYes (l .planted);
-      tree = c .before .before .before .before .tree-of .ensures i;
+      tree = tree .tree-of .ensures i;
     }
 
 pub state-of-spec : {M : Type 1} → statement M

@@ -12,11 +12,12 @@ marks-of-requires-2 c κs = search needs
 
 returns : tie.Need-returns
 returns c =
-    let l = c .before .before .before .before .before .before .before .args .lent in
+    let marks = c .before .before .before .before in
+    let l = marks .before .before .before .args .lent in
     λ i. record {
       column = l .column;
       row = l .row;
-      inside = c .before .before .before .before .marks-of .ensures i;
+      inside = marks .marks-of .ensures i;
       outside = c .before .before .before .marks-of2 .ensures i;
       colour = l .colour;
       depth = l .depth;

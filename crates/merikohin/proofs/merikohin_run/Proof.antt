@@ -29,12 +29,15 @@ machine-number-requires c κs = search needs
 
 returns : tie.Need-returns
 returns c =
-    let s = c .before .before .before .before .before .before in
-    let given = c .before .before .state-of in
+    let n = c .before in
+    let read = n .before in
+    let given = read .state-of in
+    let s = read .before .before .before .before .args in
+    let m = together (given .result) (now (s .memory)) (now (s .ram)) in
     record {
       after = given .result;
-      runs = runs-of-equal (given .ensures) (runs-refused _ (together (given .result) (now (s .args .memory)) (now (s .args .ram))) _ _ (c .before .machine-number .ensures) (c .if1 .taken));
-      answers = sym (refused (c .before .machine-number .result) (s .args .state) (given .result) (c .if1 .taken));
+      runs = runs-of-equal (given .ensures) (runs-refused _ m _ _ (n .machine-number .ensures) (c .if1 .taken));
+      answers = sym (refused (n .machine-number .result) (s .state) (given .result) (c .if1 .taken));
     }
 
 run-machine-requires : tie.Need-run-machine-requires
@@ -51,14 +54,17 @@ same-length-2 c = search needs
 
 returns-2 : tie.Need-returns-2
 returns-2 c =
-    let r = c .before .before .before .before .before .before in
-    let n = r .before .before .before .before in
-    let s = n .before .before .before .before .before in
+    let ended = c .before .before .before in
+    let r = ended .before .before .before in
+    let accepting = r .before .before .before in
+    let n = accepting .before in
+    let read = n .before in
+    let s = read .before .before .before .before in
     let ran = r .run-machine in
-    let none : ran .result .number ≡ 0 = ran .ensures .answers ∙ sym (n .machine-number .ensures) ∙ r .before .before .before .if1 .left in
+    let none : ran .result .number ≡ 0 = ran .ensures .answers ∙ sym (n .machine-number .ensures) ∙ accepting .if1 .left in
     record {
       after = ran .result .state;
-      runs = runs-of-equal (n .before .state-of .ensures) (ran .ensures);
+      runs = runs-of-equal (read .state-of .ensures) (ran .ensures);
       answers = c .lent-state .ensures ∙ sym (accepted (ran .result .number) (s .args .state) (ran .result .state) none);
     }
 

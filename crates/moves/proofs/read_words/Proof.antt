@@ -47,8 +47,9 @@ loop-less c = omega arith
 loop-again : tie.Need-loop-again Inv-loop μ-loop
 unfolding wordRead
 loop-again c =
-    let a = c .before .before .before .before .before .args in
-    let l = c .before .before .loop in (
+    let head = c .before .before in
+    let a = head .before .before .before .args in
+    let l = head .loop in (
       omega arith,
       length-set (l .memory) _ _ ∙ l .inv .1,
       ap₂ (λ m v. set m (a .to + l .i) v) (l .inv .2) (c .load-word .ensures)

@@ -48,9 +48,11 @@ loop-less c = omega arith
 loop-again : tie.Need-loop-again Inv-loop μ-loop
 unfolding wordWritten
 loop-again c =
-    let a = c .before .before .before .before .before .before .before .before .before .args in
-    let l = c .before .before .before .before .before .before .loop in
-    let s = c .before .before .store-word in (
+    let stored = c .before .before in
+    let head = stored .before .before .before .before in
+    let a = head .before .before .before .args in
+    let l = head .loop in
+    let s = stored .store-word in (
       omega arith,
       s .kept .0 ∙ l .inv .1,
       s .ensures

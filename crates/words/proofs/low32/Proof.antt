@@ -1,4 +1,5 @@
--- The mask keeps the low 32 bits of the word, and those are the number modulo 2^32. The result is below 2^32, so its signed reading is itself.
+-- The mask keeps the low 32 bits of the word, and those are the number modulo 2^32. The result is below 2^32, so its signed reading
+-- is itself.
 use mathlib.Core.Path.{_≡_, sym, _∙_, ap, subst}
 use native.Mathlib.Omega.{arith}
 use lib.Bits

@@ -23,7 +23,8 @@ quotient c = quot (known (got-lit w64 2147483647 tt)) (reading (c .before .befor
 
 div-low32 : tie.Need-div-low32
 div-low32 c =
-    (rw (c .signed .ensures) (not-zero (c .before .before .args .a) (c .before .before .fits .a) (c .before .if1 .left)), need (quotient c) tt)
+    let start = c .before .before in
+    (rw (c .signed .ensures) (not-zero (start .args .a) (start .fits .a) (c .before .if1 .left)), need (quotient c) tt)
 
 low32-requires : tie.Need-low32-requires
 low32-requires c κs = tt
@@ -31,7 +32,8 @@ low32-requires c κs = tt
 returns-2 : tie.Need-returns-2
 unfolding reciprocal
 returns-2 c =
-    rw (ne-eqb (c .before .before .before .args .a) 0 (c .before .before .if1 .left))
+    let tested = c .before .before in
+    rw (ne-eqb (tested .before .args .a) 0 (tested .if1 .left))
     (c .low32 .ensures
     ∙ ap mod32 (reads-as (quotient (c .before)) tt ∙ ap (quotZ (pos 2147483647)) (c .before .signed .ensures)))
 

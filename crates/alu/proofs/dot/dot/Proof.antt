@@ -35,12 +35,13 @@ nested t = omega arith
 returns : tie.Need-returns
 unfolding dot
 returns c =
-    let f = c .before .before .before .before in
+    let l = c .before in
+    let f = l .before .before .before in
     let s = f .before .before .before .before .args in
     c .sum323 .ensures
     ∙ ap₂ sum
     (f .sum32 .ensures ∙ ap₂ sum (f .before .before .term .ensures) (f .before .term2 .ensures))
-    (c .before .sum322 .ensures ∙ ap₂ sum (c .before .before .before .term3 .ensures) (c .before .before .term4 .ensures))
+    (l .sum322 .ensures ∙ ap₂ sum (l .before .before .term3 .ensures) (l .before .term4 .ensures))
     ∙ nested (dotTerm (now (s .memory)) (s .a) (s .b))
 
 pub dot-spec : {M : Type 1} → statement M

@@ -1,4 +1,5 @@
--- Moving up and down by 2^15 modulo 2^16 and 2^32 keeps a half below 2^15 and adds 2^32 less 2^16 to any other, as the definition's test does.
+-- Moving up and down by 2^15 modulo 2^16 and 2^32 keeps a half below 2^15 and adds 2^32 less 2^16 to any other, as the definition's
+-- test does.
 use borrow.Author.Needs.{needs}
 use Prim.Native.Nat.{ℕ, _+_, _%_}
 use mathlib.Core.Path.{_≡_, refl}

@@ -1,4 +1,5 @@
--- The code's ranges are the definition's pairs, and at either number of a pair the definition computes. Below the first pair and above the last no test holds.
+-- The code's ranges are the definition's pairs, and at either number of a pair the definition computes. Below the first pair and
+-- above the last no test holds.
 use Prim.Native.Nat.{ℕ, _<_, _≤_}
 use mathlib.Core.Path.{_≡_, refl, sym}
 use mathlib.Core.Bool.{Bool, true}
@@ -26,25 +27,35 @@ returns-2 c = one-of-two (Right (c .before .before .before) _) JNE (c .before .i
 
 returns-3 : tie.Need-returns-3
 unfolding goes
-returns-3 c = one-of-two (Right (c .before .before .before .before) _) JLT (c .before .if3 .left) (c .if4 .taken) refl refl
+returns-3 c =
+    let earlier = c .before .before in
+    one-of-two (Right (earlier .before .before) _) JLT (c .before .if3 .left) (c .if4 .taken) refl refl
 
 returns-4 : tie.Need-returns-4
 unfolding goes
-returns-4 c = one-of-two (Right (c .before .before .before .before .before) _) JLE (c .before .if4 .left) (c .if5 .taken) refl refl
+returns-4 c =
+    let earlier = c .before .before in
+    one-of-two (Right (earlier .before .before .before) _) JLE (c .before .if4 .left) (c .if5 .taken) refl refl
 
 returns-5 : tie.Need-returns-5
 unfolding goes
-returns-5 c = one-of-two (Right (c .before .before .before .before .before .before) _) JGT (c .before .if5 .left) (c .if6 .taken) refl refl
+returns-5 c =
+    let earlier = c .before .before .before in
+    one-of-two (Right (earlier .before .before .before) _) JGT (c .before .if5 .left) (c .if6 .taken) refl refl
 
 returns-6 : tie.Need-returns-6
 unfolding goes
-returns-6 c = one-of-two (Right (c .before .before .before .before .before .before .before) _) JGE (c .before .if6 .left) (c .if7 .taken) refl refl
+returns-6 c =
+    let earlier = c .before .before .before .before in
+    one-of-two (Right (earlier .before .before .before) _) JGE (c .before .if6 .left) (c .if7 .taken) refl refl
 
 returns-7 : tie.Need-returns-7
 returns-7 c = always (c .before) (λ l. omega arith)
 
 returns-8 : tie.Need-returns-8
-returns-8 c = always (c .before .before .before .before .before .before .before) (λ l. c .if7 .left)
+returns-8 c =
+    let earlier = c .before .before .before .before in
+    always (earlier .before .before .before) (λ l. c .if7 .left)
 
 pub goes-spec : {M : Type 1} → statement M
 goes-spec =

@@ -76,11 +76,15 @@ returns-9 c = at (c .before) (c .match .keys9)
 
 returns-10 : tie.Need-returns-10
 unfolding value
-returns-10 c = c .shifted-left .ensures ∙ ⊎-elim (at (c .before .before)) (at (c .before .before)) (c .before .match .keys10)
+returns-10 c =
+    let start = c .before .before in
+    c .shifted-left .ensures ∙ ⊎-elim (at start) (at start) (c .before .match .keys10)
 
 returns-11 : tie.Need-returns-11
 unfolding value
-returns-11 c = c .shifted-right .ensures ∙ ⊎-elim (at (c .before .before)) (at (c .before .before)) (c .before .match .keys11)
+returns-11 c =
+    let start = c .before .before in
+    c .shifted-right .ensures ∙ ⊎-elim (at start) (at start) (c .before .match .keys11)
 
 otherwise : (c : tie.At-match-rest) → shiftedSigned (c .before .args .a) (c .before .args .b) ≡ value-of (c .before) (c .before .args .op)
 unfolding value

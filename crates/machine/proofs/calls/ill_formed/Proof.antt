@@ -20,7 +20,9 @@ array-read-result c = search needs
 returns : tie.Need-returns
 unfolding illFormed
 returns c =
-    let s = c .before .before .before .before .before .before .before .before .before .args .state in
+    let refused = c .before .before .before .before in
+    let judged = refused .before in
+    let s = judged .before .before .before .before .args .state in
     ap₂
     (λ (t r : Bool).
     not (eqb (register (s .regs) 0) 0)
@@ -28,8 +30,8 @@ returns c =
     || (s .shown && not t)
     || (s .planted && not (s .shown))
     || (s .planted && r))
-    (c .before .before .before .before .before .sound .ensures)
-    (c .before .before .before .before .refuses .ensures)
+    (judged .sound .ensures)
+    (refused .refuses .ensures)
 
 pub ill-formed-spec : {M : Type 1} → statement M
 ill-formed-spec = tie.close (tie.spec sound-requires refuses-requires array-read-result returns)

@@ -19,18 +19,45 @@ too-long-requires c κs = search needs
 
 returns-3 : tie.Need-returns-3
 unfolding machineNumber
-returns-3 c = rw (le-ltb _ _ (c .before .before .before .if1 .left), eq-eqb _ _ (c .before .before .if2 .left), sym (c .before .too-long .ensures), c .if3 .taken)
+returns-3 c =
+    let words = c .before .before in
+    rw (
+      le-ltb _ _ (words .before .if1 .left),
+      eq-eqb _ _ (words .if2 .left),
+      sym (c .before .too-long .ensures),
+      c .if3 .taken,
+    )
 
 ill-formed-requires : tie.Need-ill-formed-requires
 ill-formed-requires c κs = search needs
 
 returns-4 : tie.Need-returns-4
 unfolding machineNumber
-returns-4 c = rw (le-ltb _ _ (c .before .before .before .before .before .if1 .left), eq-eqb _ _ (c .before .before .before .before .if2 .left), sym (c .before .before .before .too-long .ensures), c .before .before .if3 .left, sym (c .before .ill-formed .ensures), c .if4 .taken)
+returns-4 c =
+    let short = c .before .before in
+    let words = short .before .before in
+    rw (
+      le-ltb _ _ (words .before .if1 .left),
+      eq-eqb _ _ (words .if2 .left),
+      sym (short .before .too-long .ensures),
+      short .if3 .left,
+      sym (c .before .ill-formed .ensures),
+      c .if4 .taken,
+    )
 
 returns-5 : tie.Need-returns-5
 unfolding machineNumber
-returns-5 c = rw (le-ltb _ _ (c .before .before .before .before .before .if1 .left), eq-eqb _ _ (c .before .before .before .before .if2 .left), sym (c .before .before .before .too-long .ensures), c .before .before .if3 .left, sym (c .before .ill-formed .ensures), c .if4 .left)
+returns-5 c =
+    let short = c .before .before in
+    let words = short .before .before in
+    rw (
+      le-ltb _ _ (words .before .if1 .left),
+      eq-eqb _ _ (words .if2 .left),
+      sym (short .before .too-long .ensures),
+      short .if3 .left,
+      sym (c .before .ill-formed .ensures),
+      c .if4 .left,
+    )
 
 pub machine-number-spec : {M : Type 1} → statement M
 machine-number-spec =

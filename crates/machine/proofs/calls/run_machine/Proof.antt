@@ -16,18 +16,34 @@ use Rattle.machine.proofs.calls.run_machine.Tie as tie
 abbrev given : tie.Start → Machine
 given c = together (c .args .state) (now (c .args .memory)) (now (c .args .ram))
 
+-- where no number refused, before the parts were taken; and the start before that
+abbrev accepted : tie.After-view-of → tie.Else1
+accepted c =
+    let taken = c .before .before .before in
+    taken .before .before .before
+
+abbrev start : tie.Else1 → tie.Start
+start e =
+    let numbered = e .before in
+    numbered .before .before .before .before
+
 -- the parts that the run starts from are those of the state
-parts : (c : tie.After-view-of)
-    → machine (c .before .before .before .before .before .before .before .before .before .before .before .args .state .regs) (c .before .cpu-of .result) (c .view-of .result) (now (c .before .before .before .before .before .before .before .before .before .before .before .args .memory)) (now (c .before .before .before .before .before .before .before .before .before .before .before .args .ram)) ≡ given (c .before .before .before .before .before .before .before .before .before .before .before)
+parts : (c : tie.After-view-of) →
+    let a = start (accepted c) .args in
+    machine (a .state .regs) (c .before .cpu-of .result) (c .view-of .result) (now (a .memory)) (now (a .ram))
+    ≡ given (start (accepted c))
 parts c =
-    ap₂ (λ (x : Cpu) (v : View). machine (c .before .before .before .before .before .before .before .before .before .before .before .args .state .regs) x v (now (c .before .before .before .before .before .before .before .before .before .before .before .args .memory)) (now (c .before .before .before .before .before .before .before .before .before .before .before .args .ram)))
+    let a = start (accepted c) .args in
+    ap₂ (λ (x : Cpu) (v : View). machine (a .state .regs) x v (now (a .memory)) (now (a .ram)))
     (c .before .cpu-of .ensures) (c .view-of .ensures)
 
 machine-number-requires : tie.Need-machine-number-requires
 machine-number-requires c κs = search needs
 
 returns : tie.Need-returns
-returns c = runs-refused _ (given (c .before .before .before .before .before)) _ _ (c .before .machine-number .ensures) (c .if1 .taken)
+returns c =
+    let numbered = c .before in
+    runs-refused _ (given (numbered .before .before .before .before)) _ _ (numbered .machine-number .ensures) (c .if1 .taken)
 
 cpu-of-requires : tie.Need-cpu-of-requires
 cpu-of-requires c κs = search needs
@@ -36,7 +52,10 @@ view-of-requires : tie.Need-view-of-requires
 view-of-requires c κs = search needs
 
 run-requires : tie.Need-run-requires
-run-requires c κs = subst (Ready _) (sym (parts c)) (accepted-ready _ (given (c .before .before .before .before .before .before .before .before .before .before .before)) (sym (c .before .before .before .before .before .before .before .machine-number .ensures) ∙ c .before .before .before .before .before .before .if1 .left))
+run-requires c κs =
+    let e = accepted c in
+    subst (Ready _) (sym (parts c))
+    (accepted-ready _ (given (start e)) (sym (e .before .machine-number .ensures) ∙ e .if1 .left))
 
 state-of-requires : tie.Need-state-of-requires
 state-of-requires c κs = search needs
@@ -49,9 +68,14 @@ same-length-2 c = search needs
 
 returns-2 : tie.Need-returns-2
 returns-2 c =
-    runs-done _ (given (c .before .before .before .before .before .before .before .before .before .before .before .before .before .before .before .before .before .before .before)) _ _ (c .before .before .before .before .before .before .before .before .before .before .before .before .before .before .before .machine-number .ensures) _ _ _ _ (c .before .before .before .before .before .before .before .before .before .before .before .before .before .before .if1 .left) (parts (c .before .before .before .before .before .before .before .before))
-    (ap (λ (s : State). together s (c .before .before .before .before .before .before .before .run .last .1 .1 .0) (c .before .before .before .before .before .before .before .run .last .1 .1 .1 .0)) (c .state-of .ensures))
-    (c .before .before .before .before .before .before .before .run .ensures)
+    let joined = c .before .before .before in
+    let ended = joined .before .before .before .before in
+    let taken = ended .before in
+    let e = accepted taken in
+    let ran = ended .run in
+    runs-done _ (given (start e)) _ _ (e .before .machine-number .ensures) _ _ _ _ (e .if1 .left) (parts taken)
+    (ap (λ (s : State). together s (ran .last .1 .1 .0) (ran .last .1 .1 .1 .0)) (c .state-of .ensures))
+    (ran .ensures)
 
 pub run-machine-spec : {M : Type 1} → statement M
 run-machine-spec =

@@ -20,9 +20,10 @@ same-length c = search needs
 
 returns-2 : tie.Need-returns-2
 returns-2 c =
+    let accepted = c .before .before .before .before in
     done _ _ _ _ _
-    (c .before .before .before .before .before .screen-number .ensures)
-    (c .before .before .before .before .if1 .left)
+    (accepted .before .screen-number .ensures)
+    (accepted .if1 .left)
     _
     (c .before .before .fill-areas .ensures)
 

@@ -21,8 +21,9 @@ abbrev μ-loop : tie.MeasureT-loop
 kept : (c : tie.At-loop Inv-loop μ-loop) → length (c .loop .ram) ≡ length (c .before .args .ram .now)
 kept c = ap length (c .loop .inv .3) ∙ length-filled _ _ _ _
 
-whole : (c : tie.After-loop Inv-loop μ-loop)
-    → (c .before .loop .a - c .before .before .args .start) / 2 ≡ c .before .before .args .count
+whole : (c : tie.After-loop Inv-loop μ-loop) →
+    let a = c .before .before .args in
+    (c .before .loop .a - a .start) / 2 ≡ a .count
 whole c = omega arith
 
 cast-high : tie.Need-cast-high Inv-loop μ-loop
@@ -60,23 +61,22 @@ loop-less c = omega arith
 
 loop-again : tie.Need-loop-again Inv-loop μ-loop
 unfolding storeHalf
-loop-again c = (
-  omega arith,
-  omega arith,
-  omega arith,
-  ap (λ m. storeHalf m (c .before .loop .a) (c .before .before .args .v)) (c .before .loop .inv .3)
-      ∙ filled-more _ _ _ _ (c .before .loop .inv .0) (c .before .loop .inv .2),
-)
+loop-again c =
+    let loop = c .before .loop in (
+      omega arith,
+      omega arith,
+      omega arith,
+      ap (λ m. storeHalf m (loop .a) (c .before .before .args .v)) (loop .inv .3)
+          ∙ filled-more _ _ _ _ (loop .inv .0) (loop .inv .2),
+    )
 
 same-length : tie.Need-same-length Inv-loop μ-loop
 same-length c = kept (c .before)
 
 returns : tie.Need-returns Inv-loop μ-loop
 returns c =
-    c .before .loop .inv .3
-    ∙ ap
-    (λ i. filled (c .before .before .args .start) (c .before .before .args .v) i (c .before .before .args .ram .now))
-    (whole c)
+    let a = c .before .before .args in
+    c .before .loop .inv .3 ∙ ap (λ i. filled (a .start) (a .v) i (a .ram .now)) (whole c)
 
 pub fill-spec : {M : Type 1} → statement M
 fill-spec =

@@ -17,30 +17,33 @@ cast-fill : tie.Need-cast-fill
 cast-fill c = search needs
 
 fill-requires : tie.Need-fill-requires
-fill-requires c κs = omega (arith, areas (c .before .before .before) .colour-within, c .before .before .pixel-count .ensures)
+fill-requires c κs =
+    let counted = c .before .before in
+    omega (arith, areas (counted .before) .colour-within, counted .pixel-count .ensures)
 
 cast-fill-2 : tie.Need-cast-fill-2
 cast-fill-2 c = search needs
 
 fill-requires-2 : tie.Need-fill-requires-2
 fill-requires-2 c κs =
-    omega (
-      arith,
-      areas (c .before .before .before .before .before .before .before .before) .depth-within,
-      c .before .before .before .before .before .before .before .pixel-count .ensures,
-      c .before .before .before .before .fill .kept .0,
-    )
+    let filled = c .before .before .before .before in
+    let counted = filled .before .before .before in
+    omega (arith, areas (counted .before) .depth-within, counted .pixel-count .ensures, filled .fill .kept .0)
 
 same-length : tie.Need-same-length
 same-length c = search needs
 
 returns : tie.Need-returns
 returns c =
-    let q = c .before .before .before .before .before .before .before .before .before .before .before .before in
-    areas-filled (sound-facts (q .pre)) _ _ (q .args .ram .now)
-    (c .before .before .before .before .before .before .before .before .before .before .pixel-count .ensures)
-    (c .before .before .before .before .before .before .before .fill .ensures)
-    (c .before .before .fill2 .ensures)
+    let again = c .before .before in
+    let cast = again .before .before .before .before in
+    let first = cast .before in
+    let counted = first .before .before .before in
+    let start = counted .before .before in
+    areas-filled (sound-facts (start .pre)) _ _ (start .args .ram .now)
+    (counted .pixel-count .ensures)
+    (first .fill .ensures)
+    (again .fill2 .ensures)
 
 pub fill-areas-spec : {M : Type 1} → statement M
 fill-areas-spec =

@@ -20,14 +20,16 @@ returns c = chosen _ _ _ (sym (c .before .too-long .ensures) ∙ c .if1 .taken)
 returns-2 : tie.Need-returns-2
 unfolding screenNumber
 returns-2 c =
+    let short = c .before .before in
     other _ 5 0 (ap not (sym (c .before .sound .ensures) ∙ c .if2 .taken))
-    ∙ other _ 3 _ (sym (c .before .before .before .too-long .ensures) ∙ c .before .before .if1 .left)
+    ∙ other _ 3 _ (sym (short .before .too-long .ensures) ∙ short .if1 .left)
 
 returns-3 : tie.Need-returns-3
 unfolding screenNumber
 returns-3 c =
+    let short = c .before .before in
     chosen _ 5 0 (ap not (sym (c .before .sound .ensures) ∙ c .if2 .left))
-    ∙ other _ 3 _ (sym (c .before .before .before .too-long .ensures) ∙ c .before .before .if1 .left)
+    ∙ other _ 3 _ (sym (short .before .too-long .ensures) ∙ short .if1 .left)
 
 pub screen-number-spec : {M : Type 1} → statement M
 screen-number-spec =

@@ -18,17 +18,17 @@ fit : (c : tie.After-areas-fit) →
     let a = c .before .before .before .before .args in
     c .areas-fit .result ≡ areasFit (a .len) (a .s) (area (a .s .size))
 fit c =
-    c .areas-fit .ensures
-    ∙ ap (areasFit _ (c .before .before .before .before .args .s)) (c .before .area .ensures)
+    let s = c .before .before .before .before .args .s in
+    c .areas-fit .ensures ∙ ap (areasFit _ s) (c .before .area .ensures)
 
 apart : (c : tie.After-areas-apart) →
-    let s = c .before .before .before .before .before .before .args .s in
+    let sized = c .before .before .before in
+    let s = sized .before .before .before .args .s in
     c .areas-apart .result ≡ areasApart s (area (s .size))
 apart c =
-    c .areas-apart .ensures
-    ∙ ap
-    (areasApart (c .before .before .before .before .before .before .args .s))
-    (c .before .before .before .area .ensures)
+    let sized = c .before .before .before in
+    let s = sized .before .before .before .args .s in
+    c .areas-apart .ensures ∙ ap (areasApart s) (sized .area .ensures)
 
 even-starts-requires : tie.Need-even-starts-requires
 even-starts-requires c κs = search needs
@@ -46,7 +46,8 @@ areas-fit-requires c κs =
 
 areas-apart-requires : tie.Need-areas-apart-requires
 areas-apart-requires c κs =
-    omega (arith, area-small (c .before .before .before .before .before .args .s .size) (omega arith))
+    let sized = c .before .before in
+    omega (arith, area-small (sized .before .before .before .args .s .size) (omega arith))
 
 returns-2 : tie.Need-returns-2
 unfolding soundAreas

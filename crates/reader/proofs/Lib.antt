@@ -1,0 +1,2 @@
+pub mod RowBounds
+pub mod Unique

@@ -1,0 +1,2 @@
+-- What the row reader promises, in parts with names.
+pub mod Rows

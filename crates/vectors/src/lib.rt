@@ -1,1 +1,0 @@
-// The definitions on outside vectors, by computation. There is no code here.
