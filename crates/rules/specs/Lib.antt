@@ -1,4 +1,5 @@
--- Document 01, section by section: Sizes, Triangles, Numbers, and what each call leaves (Calls). Turns has the plain recursions that they use.
+-- The drawing's rules (docs/RULES.md, 2 to 6): Sizes, Triangles, Numbers, and what each call leaves (Calls). Folds has the plain
+-- recursions that they use.
 pub mod Folds
 pub mod Sizes
 pub mod Triangles
