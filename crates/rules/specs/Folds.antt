@@ -1,4 +1,4 @@
--- No rule of docs/RULES.md: doing a thing at 0, 1, .. in turn, counting, and choosing by a test.
+-- Doing a thing at 0, 1, .. in turn, counting, and choosing by a test.
 use Prim.Native.Nat.{ℕ, zero, suc, _+_}
 use mathlib.Core.Bool.{Bool, true, false}
 
