@@ -1,4 +1,4 @@
--- 01, "Machine words": what the instructions from LD to ASRI, and DOT, put in r1, and the flags.
+-- docs/RULES.md, 9.1 to 9.3 (01, "Machine words"): what the instructions from LD to ASRI, and DOT, put in r1, and the flags.
 use Prim.Native.Nat.{ℕ, _+_, _-_, _*_, _/_, _%_, _^_}
 use mathlib.Core.Bool.{Bool, _&&_, _||_, not}
 use mathlib.Core.List.{List}

@@ -1,5 +1,5 @@
--- What each machine call leaves: its number, its count of steps, its state and all lent memory, for all inputs. "Every number but 0 comes
--- with counts of 0, the state as given, and all lent memory as it was."
+-- docs/RULES.md, 2.3, 7.3 and 12.3: what each machine call leaves: its number, its count of steps, its state and all lent memory, for all
+-- inputs. "Every number but 0 comes with counts of 0, the state as given, and all lent memory as it was."
 use Prim.Native.Nat.{ℕ}
 use mathlib.Core.Path.{_≡_}
 use mathlib.Core.List.{List}

@@ -1,4 +1,4 @@
--- 01, "Halts": the rows of the table, in its order; "The first row that applies wins."
+-- docs/RULES.md, 11 (01, "Halts"): the rows of the table, in its order; "The first row that applies wins."
 use Prim.Native.Nat.{ℕ, _+_, _%_}
 use mathlib.Core.Bool.{Bool, _&&_, _||_, not}
 use mathlib.Core.List.{List}

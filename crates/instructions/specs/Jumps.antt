@@ -1,4 +1,4 @@
--- 01, "Machine words": the jumps, and where a step goes.
+-- docs/RULES.md, 9.1 and 9.4 (01, "Machine words"): the jumps, and where a step goes.
 use Prim.Native.Nat.{ℕ, _+_}
 use mathlib.Core.Bool.{Bool, true, _&&_, _||_, not}
 use lib.Dec.{leb, eqb}

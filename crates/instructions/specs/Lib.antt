@@ -1,4 +1,4 @@
--- Document 01's machine: its words and instructions, the tree, the halts; then the step, the run and the calls.
+-- The machine's rules (docs/RULES.md, 7 to 12): its words and instructions, the tree, the halts; then the step, the run and the calls.
 pub mod Opcodes
 pub mod Words
 pub mod Arithmetic

@@ -1,4 +1,4 @@
--- 01, "Machine words": READ and WRITE, 16 words between the RAM and the data memory.
+-- docs/RULES.md, 9.5 (01, "Machine words"): READ and WRITE, 16 words between the RAM and the data memory.
 use Prim.Native.Nat.{ℕ, _+_, _*_}
 use mathlib.Core.List.{List}
 use lib.ListN.{getD, set}

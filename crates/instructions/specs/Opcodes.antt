@@ -1,4 +1,5 @@
--- "the place of the name in Table 3.1 of source document 001, from LD = 0 to TREEPUT = 40 (SUB is 4, as printed)"
+-- docs/RULES.md, 9.1, whose table is docs/INSTRUCTIONS.md: "the place of the name in Table 3.1 of source document 001, from LD = 0 to
+-- TREEPUT = 40 (SUB is 4, as printed)"
 use Prim.Native.Nat.{ℕ}
 use mathlib.Core.Bool.{Bool}
 use lib.Dec.{ltb}

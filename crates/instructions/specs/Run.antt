@@ -1,4 +1,5 @@
--- 01, "Halts": the run, the steps that it counts, the fresh state; "Numbers a call answers": the ill-formed state and the numbers.
+-- docs/RULES.md, 12.2 and 7.3 (01, "Halts"): the run, the steps that it counts, the fresh state; 7.2 and 2.2 ("Numbers a call answers"):
+-- the ill-formed state and the numbers.
 use Prim.Native.Nat.{ℕ, zero, suc, _+_}
 use mathlib.Core.Bool.{Bool, false, _&&_, _||_, not}
 use mathlib.Core.List.{List}

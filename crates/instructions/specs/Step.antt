@@ -1,4 +1,5 @@
--- One step: what each instruction does to the state, the data memory and the RAM, which is all that a step touches.
+-- docs/RULES.md, 8.2, 9.1, 9.4 to 9.6 and 12.1: one step, what each instruction does to the state, the data memory and the RAM, which is
+-- all that a step touches.
 use Prim.Native.Nat.{ℕ}
 use mathlib.Core.Bool.{Bool, true, false, not}
 use mathlib.Core.List.{List}

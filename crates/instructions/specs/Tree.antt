@@ -1,4 +1,5 @@
--- 01, "The tree": "Sixteen leaves, each with marks I and O, a colour and a depth." Each instruction is told leaf by leaf.
+-- docs/RULES.md, 10 (01, "The tree"): "Sixteen leaves, each with marks I and O, a colour and a depth." Each instruction is told leaf by
+-- leaf.
 use Prim.Native.Nat.{ℕ, zero, suc, _+_, _-_, _*_, _/_, _%_, _^_}
 use mathlib.Core.Bool.{Bool, true, false, _&&_, _||_, not}
 use mathlib.Core.List.{List, [], _∷_}

@@ -1,4 +1,4 @@
--- 01, "Machine words": the fields of a word, the registers, the address, and a word read as signed.
+-- docs/RULES.md, 1.1 and 8 (01, "Machine words"): the fields of a word, the registers, the address, and a word read as signed.
 use Prim.Native.Nat.{ℕ, _+_, _/_, _%_}
 use mathlib.Core.List.{List}
 use lib.ListN.{getD, set}

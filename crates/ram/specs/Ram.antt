@@ -1,4 +1,4 @@
--- 01, "Sizes": the RAM's "words and half-words big-endian".
+-- docs/RULES.md, 1.2 (01, "Sizes"): the RAM's "words and half-words big-endian".
 use Prim.Native.Nat.{ℕ, _+_, _*_, _/_, _%_}
 use mathlib.Core.List.{List}
 use lib.ListN.{getD, set}

@@ -1,5 +1,5 @@
--- What each call leaves: its number, its counts and every byte of the lent memory. "Every number but 0 comes with counts of 0 ..
--- and all lent memory as it was."
+-- docs/RULES.md, 2.3 and 6: what each call leaves: its number, its counts and every byte of the lent memory. "Every number but 0 comes
+-- with counts of 0 .. and all lent memory as it was."
 use Prim.Native.Nat.{ℕ, _*_}
 use mathlib.Core.Path.{_≡_}
 use mathlib.Core.List.{List}

@@ -1,4 +1,4 @@
--- 01, "Numbers a call answers": for each kind of call the lowest number that applies.
+-- docs/RULES.md, 2.1 and 2.2 (01, "Numbers a call answers"): for each kind of call the lowest number that applies.
 use Prim.Native.Nat.{ℕ}
 use mathlib.Core.Bool.{Bool, _&&_, _||_, not}
 use lib.Dec.{ltb}

@@ -1,4 +1,5 @@
--- 01, "Sizes": the RAM, the screen and its size number, and where a pixel's colour and depth stand.
+-- docs/RULES.md, 1.2 and 3.1 to 3.3 (01, "Sizes"): the RAM's length, the screen and its size number, and where a pixel's colour and
+-- depth stand.
 use Prim.Native.Nat.{ℕ, _+_, _*_, _/_, _%_}
 use mathlib.Core.Bool.{Bool, _&&_, _||_}
 use mathlib.Core.List.{List}

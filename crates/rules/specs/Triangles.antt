@@ -1,4 +1,5 @@
--- 01, "Triangles": planes, the sample point, the edge value, the tie rule, which pixels are covered and which are written.
+-- docs/RULES.md, 3.4, 4, 5 and 6.2 (01, "Triangles"): planes, the sample point, the edge value, the tie rule, which pixels are covered
+-- and which are written.
 use Prim.Native.Nat.{ℕ, zero, suc, _+_, _*_, _/_, _%_}
 use mathlib.Core.Bool.{Bool, true, false, _&&_, _||_}
 use mathlib.Core.List.{List}
