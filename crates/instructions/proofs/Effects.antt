@@ -20,7 +20,7 @@ pub record EachEffect (P : Machine → Type 0) (m : Machine) (w : ℕ) : Type 0 
   pub onST : P (afterST m w)
   pub onCALL : P (afterCALL m)
   pub onREAD : P (afterREAD m w)
-  pub onWRITE : P (afterWRITE m w)
+  pub onWRITE : opcode w ≡ WRITE → P (afterWRITE m w)
   pub onSCRSET : opcode w ≡ SCRSET → P (afterSCRSET m w)
   pub onCLS : P (afterCLS m w)
   pub onTREESET : opcode w ≡ TREESET → P (afterTREESET m w)
@@ -36,7 +36,7 @@ effect-has P m w c =
     pick P (eqb (opcode w) ST) (λ e. c .onST) λ e.
     pick P (eqb (opcode w) CALL) (λ e. c .onCALL) λ e.
     pick P (eqb (opcode w) READ) (λ e. c .onREAD) λ e.
-    pick P (eqb (opcode w) WRITE) (λ e. c .onWRITE) λ e.
+    pick P (eqb (opcode w) WRITE) (λ e. c .onWRITE (eqb-true (opcode w) WRITE e)) λ e.
     pick P (eqb (opcode w) SCRSET) (λ e. c .onSCRSET (eqb-true (opcode w) SCRSET e)) λ e.
     pick P (eqb (opcode w) CLS) (λ e. c .onCLS) λ e.
     pick P (eqb (opcode w) TREESET) (λ e. c .onTREESET (eqb-true (opcode w) TREESET e)) λ e.
@@ -123,7 +123,7 @@ effect-halt m w =
       onST = refl;
       onCALL = refl;
       onREAD = refl;
-      onWRITE = refl;
+      onWRITE = λ e. refl;
       onSCRSET = λ e. refl;
       onCLS = refl;
       onTREESET = λ e. refl;

@@ -164,7 +164,7 @@ module _ (m : Machine) (w : ℕ) where
         onST = h;
         onCALL = written h _ _;
         onREAD = h;
-        onWRITE = h;
+        onWRITE = λ e. h;
         onSCRSET = λ e. screened h _ (SCRSET-sound n e);
         onCLS = h;
         onTREESET = λ e. set-up e;
