@@ -81,11 +81,11 @@ effect-keeps-lengths m w =
       onREAD = record { memory = length-wordsRead (m .ram) _ _ (m .memory); ram = refl; registers = refl };
       onWRITE = λ e. record { memory = refl; ram = length-wordsWritten (m .memory) _ _ (m .ram); registers = refl };
       onSCRSET = λ e. record { memory = refl; ram = refl; registers = refl };
-      onCLS = record { memory = refl; ram = length-cleared (m .state .screen) _ _ (m .ram); registers = refl };
+      onCLS = λ e. record { memory = refl; ram = length-cleared (m .state .screen) _ _ (m .ram); registers = refl };
       onTREESET = λ e. record { memory = refl; ram = refl; registers = refl };
       onTREEIN = λ e. record { memory = refl; ram = refl; registers = length-write (m .state .regs) _ _ };
       onTREEVAL = λ e. record { memory = refl; ram = refl; registers = length-write (m .state .regs) _ _ };
-      onTREEPUT = record { memory = refl; ram = length-treePut (m .state .screen) (m .state .tree) (m .ram); registers = refl };
+      onTREEPUT = λ e. record { memory = refl; ram = length-treePut (m .state .screen) (m .state .tree) (m .ram); registers = refl };
       onJump = same m;
     })
 
@@ -126,11 +126,11 @@ module _ (P : Tree → Type 0) (kept : TreesKeep P) where
         onREAD = h;
         onWRITE = λ e. h;
         onSCRSET = λ e. h;
-        onCLS = h;
+        onCLS = λ e. h;
         onTREESET = λ e. kept .byTREESET _ _ _;
         onTREEIN = λ e. kept .byTREEIN _ _ _ h;
         onTREEVAL = λ e. kept .byTREEVAL _ _ _ _ _ _ h;
-        onTREEPUT = h;
+        onTREEPUT = λ e. h;
         onJump = h;
       })
 

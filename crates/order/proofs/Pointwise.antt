@@ -19,7 +19,7 @@ use Rattle.rules.proofs.Memory.{same-memory, on-rows}
 use Rattle.rules.proofs.Drawing.{merged-cell, touched-drawn, touched-cleared}
 use Rattle.order.specs.Pointwise.{Reads, Elsewhere, Painted}
 
-outside : {s : Screen} {b : ℕ} → Elsewhere s b → Outside s b
+pub outside : {s : Screen} {b : ℕ} → Elsewhere s b → Outside s b
 outside e = record {
   no-colour = λ {x} {y} p. neither (e .no-colour x y (p .across) (p .down));
   no-depth = λ {x} {y} p. neither (e .no-depth x y (p .across) (p .down));
@@ -29,7 +29,7 @@ outside e = record {
     neither n (inl q) = n .0 q
     neither n (inr q) = n .1 q
 
-elsewhere : {s : Screen} {b : ℕ} → Outside s b → Elsewhere s b
+pub elsewhere : {s : Screen} {b : ℕ} → Outside s b → Elsewhere s b
 elsewhere o = record {
   no-colour = λ x y h v. let n = o .no-colour (record { across = h; down = v }) in (λ q. n (inl q), λ q. n (inr q));
   no-depth = λ x y h v. let n = o .no-depth (record { across = h; down = v }) in (λ q. n (inl q), λ q. n (inr q));
