@@ -1,0 +1,3 @@
+-- What the machine's drawing instructions paint: that a painting is one memory, what each instruction paints, and what stays.
+pub mod Painted
+pub mod Put
