@@ -1,0 +1,21 @@
+-- The words that a run carries out.
+use Prim.Native.Nat.{ℕ, _<_}
+use mathlib.Core.Path.{_≡_}
+use mathlib.Core.Logic.{_≢_}
+use mathlib.Core.Bool.{true}
+use mathlib.Core.List.{List}
+use Rattle.instructions.specs.Opcodes.{WRITE, SCRSET}
+use Rattle.instructions.specs.Words.{opcode}
+use Rattle.instructions.specs.Halts.{wordAt}
+use Rattle.instructions.specs.Step.{Machine}
+use Rattle.instructions.specs.Run.{run, isCounted}
+
+-- P holds of every word that a run of n steps carries out
+abbrev pub CarriesOut : (ℕ → Type 0) → List ℕ → ℕ → Machine → Type 0
+CarriesOut P program n m =
+    (i : ℕ) → i < n → isCounted program (run program i m) ≡ true → P (wordAt program (run program i m .state))
+
+-- neither WRITE, which alone writes anywhere in the RAM, nor SCRSET, which alone changes the screen; CLS and the four TREE
+-- instructions are such words
+abbrev pub KeepsToScreen : ℕ → Type 0
+KeepsToScreen w = (opcode w ≢ WRITE) × (opcode w ≢ SCRSET)
