@@ -2,3 +2,4 @@
 pub mod Painted
 pub mod Put
 pub mod Steps
+pub mod Kept

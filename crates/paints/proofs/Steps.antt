@@ -56,17 +56,22 @@ module _ (m : Machine) (w : ℕ) (a : opcode w ≢ WRITE) (b : opcode w ≢ CLS)
         onJump = refl;
       })
 
--- a step that is not carried out leaves the RAM
-pub uncounted-keeps-ram : (program : List ℕ) (m : Machine) → isCounted program m ≡ false → step program m .ram ≡ m .ram
-unfolding step isCounted
-uncounted-keeps-ram program m e = go (isHalted m) (eqb (nextHalt program m) 0) e
+-- a step that is not carried out leaves the screen and the RAM
+pub record Same (m k : Machine) : Type 0 where
+  pub screen : k .state .screen ≡ m .state .screen
+  pub ram : k .ram ≡ m .ram
+
+pub uncounted-keeps : (program : List ℕ) (m : Machine) → isCounted program m ≡ false → Same m (step program m)
+unfolding step isCounted withHalt
+uncounted-keeps program m e = go (isHalted m) (eqb (nextHalt program m) 0) e
   where
     go : (a b : Bool) → (not a && b) ≡ false
-        → choose a m (choose b (performed m (wordAt program (m .state))) (withState (withHalt (nextHalt program m) (m .state)) m)) .ram
-        ≡ m .ram
-    go true b e = refl
+        → Same m
+        (choose a m
+        (choose b (performed m (wordAt program (m .state))) (withState (withHalt (nextHalt program m) (m .state)) m)))
+    go true b e = record { screen = refl; ram = refl }
     go false true e = absurd (true≢false e)
-    go false false e = refl
+    go false false e = record { screen = refl; ram = refl }
 
 -- a step that is carried out, of a well-formed state
 module _ (program : List ℕ) (m : Machine) (good : illFormed (length (m .ram)) (m .state) ≡ false) (c : isCounted program m ≡ true) where
