@@ -17,6 +17,7 @@ use Rattle.border.specs.Lent.{stateOf, lentState}
 use Rattle.border.proofs.Back.{lent-marks, state-back}
 use Rattle.merikohin.specs.declared.LentRan.{LentRan}
 use Rattle.merikohin.specs.Lends.{RunsLent}
+use Rattle.merikohin.specs.Again.{joined}
 use Rattle.merikohin.proofs.Lends.{runs-of-equal}
 use Rattle.merikohin.proofs.Unique.{runs-lent-unique}
 
@@ -51,10 +52,6 @@ module _ {program memory ram memory₁ ram₁ : List ℕ} {budget : ℕ} {given 
       let marks = run-keeps-marks program budget start (lent-marks given) in
       ap stateOf (c .answers ∙ accepted-yes (p .number) (lentState (c .after)) given e)
       ∙ state-back (c .after) (subst (λ (m : Machine). SixteenMarks (m .state .tree)) (sym left) marks)
-
--- what two calls answer together
-abbrev pub joined : LentRan → LentRan → LentRan
-joined p q = record { number = q .number; steps = p .steps + q .steps; state = q .state }
 
 module _ {program memory ram memory₁ ram₁ memory₂ ram₂ : List ℕ} {m n : ℕ} {given : LentState} {p q : LentRan}
     (first : RunsLent program m given memory ram p memory₁ ram₁)

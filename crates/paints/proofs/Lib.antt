@@ -3,3 +3,4 @@ pub mod Painted
 pub mod Put
 pub mod Steps
 pub mod Kept
+pub mod Alike

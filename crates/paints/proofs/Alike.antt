@@ -1,0 +1,153 @@
+-- Where a screen stands does not matter: from equal pixels, runs that READ, WRITE and SCRSET take no part in end with equal states and equal
+-- pixels, and count alike. Each instruction has its like; CLS and TREEPUT paint alike, and TREEVAL 0 judges by equal depths.
+use Prim.Native.Nat.{ℕ, zero, suc, _+_, _<_}
+use mathlib.Core.Path.{_≡_, refl, sym, _∙_, ap, ap₂, subst}
+use mathlib.Core.Logic.{_≢_}
+use mathlib.Core.Bool.{Bool, true, false, _&&_, _||_, not}
+use mathlib.Core.List.{List}
+use native.Mathlib.Omega.{arith}
+use lib.ListN.{length}
+use lib.Dec.{ltb, eqb}
+use borrow.Author.Tests.{ltb-true, eqb-true, ne-eqb}
+use Rattle.rules.specs.declared.Screen.{Screen}
+use Rattle.rules.specs.Folds.{bit, choose}
+use Rattle.rules.specs.Triangles.{topHalf}
+use Rattle.instructions.specs.declared.Tree.{Tree}
+use Rattle.instructions.specs.declared.State.{State}
+use Rattle.instructions.specs.Opcodes.{ST, CALL, READ, WRITE, SCRSET, CLS, TREESET, TREEIN, TREEVAL, TREEPUT}
+use Rattle.instructions.specs.Words.{opcode, imm, inR1, inR2}
+use Rattle.instructions.specs.Arithmetic.{setsFlags, lowHalf}
+use Rattle.instructions.specs.Jumps.{nextPlace}
+use Rattle.instructions.specs.Tree.{leaves, markI, markO, leafValue, refusesPlace, storedDepth, marked, deepened, treeDepth, treeColour, treeVal}
+use Rattle.instructions.specs.Halts.{wordAt, pastProgram, moveOutsideRam, noScreen, noTree, wordHalt, haltNumber}
+use Rattle.instructions.specs.Step.{Machine, together, withState, withRegisters, withPlace, withFlags, withHalt, withTree, afterResult, afterST, afterCALL, afterCLS, afterTREESET, grown, afterTREEIN, afterTREEVAL, afterTREEPUT, effect, performed, isHalted, nextHalt, step}
+use Rattle.instructions.specs.Run.{run, isCounted, steps, illFormed}
+use Rattle.instructions.proofs.Leaves.{leaves-same}
+use Rattle.instructions.proofs.Halts.{NoHalt, goes-on, CLS-shown, TREEVAL-planted, TREEPUT-planted}
+use Rattle.instructions.proofs.Standing.{leaf-on}
+use Rattle.instructions.proofs.WellFormed.{WellFormed, well-formed-facts, step-well-formed}
+use Rattle.paints.specs.Paint.{Paint, PaintedWith}
+use Rattle.paints.specs.Runs.{ComesTo, KeepsToPixels}
+use Rattle.paints.specs.Alike.{Starts, screenAt, stateAt, SamePixels, Alike}
+use Rattle.paints.proofs.Painted.{colour-after, depth-after, clear-paints}
+use Rattle.paints.proofs.Put.{tree-put-paints}
+
+-- a relation that holds on both ways of one test
+pick₂ : {A B : Type 0} (R : A → B → Type 0) (t : Bool) {x y : A} {x′ y′ : B}
+    → (t ≡ true → R x x′)
+    → (t ≡ false → R y y′)
+    → R (choose t x y) (choose t x′ y′)
+pick₂ R t {x} {y} {x′} {y′} p q = go t p q
+  where
+    go : (c : Bool) → (c ≡ true → R x x′) → (c ≡ false → R y y′) → R (choose c x y) (choose c x′ y′)
+    go true p q = p refl
+    go false p q = q refl
+
+-- one painting on two screens
+painted-alike : (p : Starts) {s : Screen} {colour depth : Paint} {m k m′ k′ : List ℕ}
+    → PaintedWith s colour depth m m′
+    → PaintedWith (screenAt p s) colour depth k k′
+    → SamePixels s m (screenAt p s) k
+    → SamePixels s m′ (screenAt p s) k′
+painted-alike p {s} {colour} {depth} f g h x y a b = (
+  colour-after f x y a b
+  ∙ ap (choose (colour .picks x y) (colour .value x y)) (h x y a b .0)
+  ∙ sym (colour-after g x y a b),
+  depth-after f x y a b
+  ∙ ap (choose (depth .picks x y) (depth .value x y)) (h x y a b .1)
+  ∙ sym (depth-after g x y a b),
+)
+
+-- TREEVAL judges by equal depths
+module _ (p : Starts) (s : Screen) (r r′ : List ℕ) (same : SamePixels s r (screenAt p s) r′)
+    (t : Tree) (place : refusesPlace s (t .column) (t .row) ≡ false) (a b : ℕ) where
+  judged-alike : (part : ℕ) → treeVal part (screenAt p s) r′ a b t ≡ treeVal part s r a b t
+  unfolding treeVal
+  judged-alike part = ap (λ u. choose (eqb part 0) u (treeColour part a b t)) depths
+    where
+      stored : (k : ℕ) → k < 16 → storedDepth (screenAt p s) r′ t k ≡ storedDepth s r t k
+      stored k h = let on = leaf-on s (t .column) (t .row) place h in sym (same (t .column + k) (t .row) (on .across) (on .down) .1)
+
+      inside : leaves (λ k. markI t k && not (ltb (storedDepth (screenAt p s) r′ t k) (topHalf (leafValue a b k))))
+          ≡ leaves (λ k. markI t k && not (ltb (storedDepth s r t k) (topHalf (leafValue a b k))))
+      inside = leaves-same (λ k h. ap (λ d. markI t k && not (ltb d (topHalf (leafValue a b k)))) (stored k h))
+
+      outside : leaves (λ k. markO t k || ltb (storedDepth (screenAt p s) r′ t k) (topHalf (leafValue a b k)))
+          ≡ leaves (λ k. markO t k || ltb (storedDepth s r t k) (topHalf (leafValue a b k)))
+      outside = leaves-same (λ k h. ap (λ d. markO t k || ltb d (topHalf (leafValue a b k))) (stored k h))
+
+      depths : treeDepth (screenAt p s) r′ a b t ≡ treeDepth s r a b t
+      depths = unfold treeDepth marked deepened in λ i. record {
+        column = t .column;
+        row = t .row;
+        inside = inside i;
+        outside = outside i;
+        colour = t .colour;
+        depth = leaves (λ k. topHalf (leafValue a b k));
+        held = true;
+      }
+
+-- a machine, and its like with a RAM r
+module _ (p : Starts) (m : Machine) (r : List ℕ)
+    (same : SamePixels (m .state .screen) (m .ram) (screenAt p (m .state .screen)) r)
+    (good : WellFormed (length (m .ram)) (m .state))
+    (good′ : WellFormed (length r) (stateAt p (m .state))) where
+  abbrev like : Machine
+  like = together (stateAt p (m .state)) (m .memory) r
+
+  abbrev st : State
+  st = m .state
+
+  effect-alike : (w : ℕ) → NoHalt (length (m .ram)) st w → KeepsToPixels w → Alike p (effect m w) (effect like w)
+  unfolding effect afterResult afterST afterCALL afterCLS afterTREESET grown afterTREEIN afterTREEVAL afterTREEPUT withRegisters withFlags withTree
+  effect-alike w n (noRead, noWrite, noScrset) =
+      pick₂ (Alike p) (setsFlags (opcode w)) (λ e. record { state = refl; memory = refl; pixels = same }) λ e.
+      pick₂ (Alike p) (eqb (opcode w) ST) (λ e. record { state = refl; memory = refl; pixels = same }) λ e.
+      pick₂ (Alike p) (eqb (opcode w) CALL) (λ e. record { state = refl; memory = refl; pixels = same }) λ e.
+      pick₂ (Alike p) (eqb (opcode w) READ) (λ e. absurd (noRead (eqb-true (opcode w) READ e))) λ e.
+      pick₂ (Alike p) (eqb (opcode w) WRITE) (λ e. absurd (noWrite (eqb-true (opcode w) WRITE e))) λ e.
+      pick₂ (Alike p) (eqb (opcode w) SCRSET) (λ e. absurd (noScrset (eqb-true (opcode w) SCRSET e))) λ e.
+      pick₂ (Alike p) (eqb (opcode w) CLS) (λ e. record {
+        state = refl;
+        memory = refl;
+        pixels = cleared-alike (CLS-shown n (eqb-true (opcode w) CLS e));
+      }) λ e.
+      pick₂ (Alike p) (eqb (opcode w) TREESET) (λ e. record { state = refl; memory = refl; pixels = same }) λ e.
+      pick₂ (Alike p) (eqb (opcode w) TREEIN) (λ e. record { state = refl; memory = refl; pixels = same }) λ e.
+      pick₂ (Alike p) (eqb (opcode w) TREEVAL) (λ e. record {
+        state = ap (λ u. stateAt p (grown st w u)) (judged (TREEVAL-planted n (eqb-true (opcode w) TREEVAL e)));
+        memory = refl;
+        pixels = same;
+      }) λ e.
+      pick₂ (Alike p) (eqb (opcode w) TREEPUT) (λ e. record {
+        state = refl;
+        memory = refl;
+        pixels = put-alike (TREEPUT-planted n (eqb-true (opcode w) TREEPUT e));
+      }) λ e.
+      record { state = refl; memory = refl; pixels = same }
+    where
+      judged : st .planted ≡ true
+          → treeVal (imm w) (screenAt p (st .screen)) r (inR1 (st .regs) w) (inR2 (st .regs) w) (st .tree)
+          ≡ treeVal (imm w) (st .screen) (m .ram) (inR1 (st .regs) w) (inR2 (st .regs) w) (st .tree)
+      judged h = judged-alike p (st .screen) (m .ram) r same (st .tree) (good .treePlace h) (inR1 (st .regs) w) (inR2 (st .regs) w) (imm w)
+
+      cleared-alike : st .shown ≡ true → SamePixels (st .screen) (afterCLS m w .ram) (screenAt p (st .screen)) (afterCLS like w .ram)
+      cleared-alike h =
+          painted-alike p
+          (clear-paints (st .screen) (m .ram) (good .screenSound h) (lowHalf (inR1 (st .regs) w)) (lowHalf (inR2 (st .regs) w)))
+          (clear-paints (screenAt p (st .screen)) r (good′ .screenSound h) (lowHalf (inR1 (st .regs) w)) (lowHalf (inR2 (st .regs) w)))
+          same
+
+      put-alike : st .planted ≡ true → SamePixels (st .screen) (afterTREEPUT m .ram) (screenAt p (st .screen)) (afterTREEPUT like .ram)
+      put-alike h =
+          let shown = good .treeShown h in
+          painted-alike p
+          (tree-put-paints (st .screen) (m .ram) (good .screenSound shown) (st .tree) (good .treePlace h))
+          (tree-put-paints (screenAt p (st .screen)) r (good′ .screenSound shown) (st .tree) (good′ .treePlace h))
+          same
+
+  performed-alike : (w : ℕ) → NoHalt (length (m .ram)) st w → KeepsToPixels w → Alike p (performed m w) (performed like w)
+  unfolding performed withPlace nextPlace
+  performed-alike w n h =
+      let e : Alike p (effect m w) (effect like w) = effect-alike w n h in
+      record { state = ap (withPlace (nextPlace st w)) (e .state); memory = e .memory; pixels = e .pixels }
