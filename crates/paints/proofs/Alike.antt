@@ -1,7 +1,7 @@
 -- Where a screen stands does not matter: from equal pixels, runs that READ, WRITE and SCRSET take no part in end with equal states and equal
 -- pixels, and count alike. Each instruction has its like; CLS and TREEPUT paint alike, and TREEVAL 0 judges by equal depths.
 use Prim.Native.Nat.{ℕ, zero, suc, _+_, _<_}
-use mathlib.Core.Path.{_≡_, refl, sym, _∙_, ap, ap₂, subst}
+use mathlib.Core.Path.{_≡_, refl, sym, _∙_, ap, ap₂, subst, subst₂}
 use mathlib.Core.Logic.{_≢_}
 use mathlib.Core.Bool.{Bool, true, false, _&&_, _||_, not}
 use mathlib.Core.List.{List}
@@ -23,8 +23,9 @@ use Rattle.instructions.specs.Halts.{wordAt, pastProgram, moveOutsideRam, noScr
 use Rattle.instructions.specs.Step.{Machine, together, withState, withRegisters, withPlace, withFlags, withHalt, withTree, afterResult, afterST, afterCALL, afterCLS, afterTREESET, grown, afterTREEIN, afterTREEVAL, afterTREEPUT, effect, performed, isHalted, nextHalt, step}
 use Rattle.instructions.specs.Run.{run, isCounted, steps, illFormed}
 use Rattle.instructions.proofs.Leaves.{leaves-same}
-use Rattle.instructions.proofs.Halts.{NoHalt, goes-on, CLS-shown, TREEVAL-planted, TREEPUT-planted}
+use Rattle.instructions.proofs.Halts.{NoHalt, in-program, goes-on, CLS-shown, TREEVAL-planted, TREEPUT-planted}
 use Rattle.instructions.proofs.Standing.{leaf-on}
+use Rattle.instructions.proofs.Run.{step-halted, step-halting, step-counted}
 use Rattle.instructions.proofs.WellFormed.{WellFormed, well-formed-facts, step-well-formed}
 use Rattle.paints.specs.Paint.{Paint, PaintedWith}
 use Rattle.paints.specs.Runs.{ComesTo, KeepsToPixels}
@@ -151,3 +152,90 @@ module _ (p : Starts) (m : Machine) (r : List ℕ)
   performed-alike w n h =
       let e : Alike p (effect m w) (effect like w) = effect-alike w n h in
       record { state = ap (withPlace (nextPlace st w)) (e .state); memory = e .memory; pixels = e .pixels }
+
+  word-alike : (w : ℕ) → KeepsToPixels w → wordHalt (length r) (stateAt p st) w ≡ wordHalt (length (m .ram)) st w
+  unfolding wordHalt moveOutsideRam noScreen noTree refusesPlace
+  word-alike w (noRead, noWrite, noScrset) =
+      rw (ne-eqb (opcode w) READ noRead, ne-eqb (opcode w) WRITE noWrite, ne-eqb (opcode w) SCRSET noScrset)
+
+  -- one step
+  module _ (program : List ℕ) (keeps : st .place < length program → KeepsToPixels (wordAt program st)) where
+    halt-alike : nextHalt program like ≡ nextHalt program m
+    unfolding haltNumber
+    halt-alike = go (ltb (st .place) (length program)) refl
+      where
+        go : (t : Bool) → ltb (st .place) (length program) ≡ t
+            → choose (not t) 12 (wordHalt (length r) (stateAt p st) (wordAt program st))
+            ≡ choose (not t) 12 (wordHalt (length (m .ram)) st (wordAt program st))
+        go true e = word-alike (wordAt program st) (keeps (ltb-true _ _ e))
+        go false e = refl
+
+    counted-alike : isCounted program like ≡ isCounted program m
+    unfolding isCounted
+    counted-alike = ap (λ n. not (isHalted m) && eqb n 0) halt-alike
+
+    step-like : Alike p (step program m) (step program like)
+    step-like = go (isHalted m) (eqb (nextHalt program m) 0) refl refl
+      where
+        counted : isHalted m ≡ false → eqb (nextHalt program m) 0 ≡ true → isCounted program m ≡ true
+        counted e f = unfold isCounted in rw (e, f)
+
+        go : (a b : Bool) → isHalted m ≡ a → eqb (nextHalt program m) 0 ≡ b → Alike p (step program m) (step program like)
+        go true b e f =
+            subst₂ (Alike p) (sym (step-halted program m e)) (sym (step-halted program like e))
+            (record { state = refl; memory = refl; pixels = same })
+        go false true e f =
+            let c : isCounted program m ≡ true = counted e f in
+            let none : nextHalt program m ≡ 0 = eqb-true (nextHalt program m) 0 f in
+            subst₂ (Alike p) (sym (step-counted program m c)) (sym (step-counted program like (counted-alike ∙ c)))
+            (performed-alike (wordAt program st)
+            (goes-on program (length (m .ram)) st none)
+            (keeps (in-program program (length (m .ram)) st none)))
+        go false false e f =
+            subst₂ (Alike p)
+            (sym (step-halting program m e f))
+            (sym (step-halting program like e (ap (λ n. eqb n 0) halt-alike ∙ f)))
+            (record {
+              state = unfold withHalt in ap (λ n. withHalt n (stateAt p st)) halt-alike;
+              memory = refl;
+              pixels = unfold withHalt in same;
+            })
+
+abbrev IsGood : Machine → Type 0
+IsGood m = illFormed (length (m .ram)) (m .state) ≡ false
+
+module _ (p : Starts) (program : List ℕ) where
+  pub step-alike : (m k : Machine)
+      → Alike p m k
+      → IsGood m
+      → IsGood k
+      → (m .state .place < length program → KeepsToPixels (wordAt program (m .state)))
+      → Alike p (step program m) (step program k) × (isCounted program k ≡ isCounted program m)
+  step-alike m k a good good′ keeps =
+      subst (λ (z : Machine). IsGood z → Alike p (step program m) (step program z) × (isCounted program z ≡ isCounted program m))
+      (sym is-like)
+      (λ g. let f = well-formed-facts good in let f′ = well-formed-facts g in (
+        step-like p m (k .ram) (a .pixels) f f′ program keeps,
+        counted-alike p m (k .ram) (a .pixels) f f′ program keeps,
+      ))
+      good′
+    where
+      is-like : k ≡ together (stateAt p (m .state)) (m .memory) (k .ram)
+      is-like = λ i. record { state = a .state i; memory = a .memory i; ram = k .ram }
+
+  pub run-alike : (n : ℕ) (m k : Machine)
+      → Alike p m k
+      → IsGood m
+      → IsGood k
+      → ComesTo KeepsToPixels program n m
+      → Alike p (run program n m) (run program n k) × (steps program n k ≡ steps program n m)
+  unfolding run steps
+  run-alike zero m k a good good′ h = (a, refl)
+  run-alike (suc n) m k a good good′ h =
+      let (b, c) = step-alike m k a good good′ (h 0 (omega arith)) in
+      let (d, e) =
+          run-alike n (step program m) (step program k) b
+          (step-well-formed program m good) (step-well-formed program k good′)
+          (λ i l. h (suc i) (omega arith))
+      in
+      (d, ap₂ (λ t j. bit t + j) c e)
