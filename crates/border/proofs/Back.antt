@@ -1,13 +1,12 @@
 -- The state that an answered one stands for is the state itself: what C has of it loses nothing. That the marks are sixteen is asked for,
 -- and holds of every state that a call reads (`lent-marks`) and so of every state that it answers, since a run keeps them.
-use Prim.Native.Nat.{ℕ}
 use mathlib.Core.Path.{_≡_, refl, _∙_, ap}
 use mathlib.Core.Bool.{Bool, true, false}
 use mathlib.Core.List.{List, [], _∷_}
 use lib.ListN.{length, getD}
 use Rattle.instructions.specs.declared.Tree.{Tree}
 use Rattle.instructions.specs.declared.State.{State}
-use Rattle.instructions.specs.Tree.{each, leaves}
+use Rattle.instructions.specs.Tree.{each}
 use Rattle.instructions.proofs.Leaves.{length-each, leaf-at, leaves-same}
 use Rattle.instructions.proofs.Lengths.{SixteenMarks}
 use Rattle.border.specs.declared.LentState.{LentState}

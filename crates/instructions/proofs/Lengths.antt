@@ -116,7 +116,8 @@ pub record TreesKeep (P : Tree → Type 0) : Type 0 where
 
 module _ (P : Tree → Type 0) (kept : TreesKeep P) where
   effect-keeps-tree : (m : Machine) (w : ℕ) → P (m .state .tree) → P (effect m w .state .tree)
-  unfolding afterResult afterST afterCALL afterREAD afterWRITE afterSCRSET afterCLS afterTREESET grown afterTREEIN afterTREEVAL afterTREEPUT withRegisters withFlags withScreen withTree
+  unfolding afterResult afterST afterCALL afterREAD afterWRITE afterSCRSET afterCLS afterTREESET afterTREEIN afterTREEVAL afterTREEPUT
+      grown withRegisters withFlags withScreen withTree
   effect-keeps-tree m w h =
       effect-has (λ k. P (k .state .tree)) m w
       (record {

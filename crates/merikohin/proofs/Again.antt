@@ -1,5 +1,5 @@
--- "Running m and then n steps ends as running m + n, where the sum fits, with the counts added", over a state lent and lent again: the state
--- that an answered one stands for is the state that the run left. A refused call answers the state as given, so the next is the same call.
+-- "Running m and then n steps ends as running m + n, where the sum fits, with the counts added", over a state lent and lent again: what C
+-- has of a state stands for that state. A refused call answers the state as given, so the next is the same call.
 use Prim.Native.Nat.{ℕ, _+_}
 use mathlib.Core.Path.{_≡_, sym, _∙_, ap, ap₂, subst}
 use mathlib.Core.Logic.{_≢_}

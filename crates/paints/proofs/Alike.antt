@@ -1,8 +1,7 @@
--- Where a screen stands does not matter: from equal pixels, runs that READ, WRITE and SCRSET take no part in end with equal states and equal
--- pixels, and count alike. Each instruction has its like; CLS and TREEPUT paint alike, and TREEVAL 0 judges by equal depths.
+-- Where a screen stands does not matter: from equal pixels, runs that come to no READ, WRITE or SCRSET end with equal states and equal
+-- pixels, and count alike. CLS and TREEPUT paint alike, TREEVAL 0 judges by equal depths, and no other word looks at the RAM.
 use Prim.Native.Nat.{ℕ, zero, suc, _+_, _<_}
 use mathlib.Core.Path.{_≡_, refl, sym, _∙_, ap, ap₂, subst, subst₂}
-use mathlib.Core.Logic.{_≢_}
 use mathlib.Core.Bool.{Bool, true, false, _&&_, _||_, not}
 use mathlib.Core.List.{List}
 use native.Mathlib.Omega.{arith}
@@ -18,9 +17,12 @@ use Rattle.instructions.specs.Opcodes.{ST, CALL, READ, WRITE, SCRSET, CLS, TREE
 use Rattle.instructions.specs.Words.{opcode, imm, inR1, inR2}
 use Rattle.instructions.specs.Arithmetic.{setsFlags, lowHalf}
 use Rattle.instructions.specs.Jumps.{nextPlace}
-use Rattle.instructions.specs.Tree.{leaves, markI, markO, leafValue, refusesPlace, storedDepth, marked, deepened, treeDepth, treeColour, treeVal}
-use Rattle.instructions.specs.Halts.{wordAt, pastProgram, moveOutsideRam, noScreen, noTree, wordHalt, haltNumber}
-use Rattle.instructions.specs.Step.{Machine, together, withState, withRegisters, withPlace, withFlags, withHalt, withTree, afterResult, afterST, afterCALL, afterCLS, afterTREESET, grown, afterTREEIN, afterTREEVAL, afterTREEPUT, effect, performed, isHalted, nextHalt, step}
+use Rattle.instructions.specs.Tree.{leaves, markI, markO, leafValue, refusesPlace, storedDepth, marked, deepened, treeDepth, treeColour}
+use Rattle.instructions.specs.Tree.{treeVal}
+use Rattle.instructions.specs.Halts.{wordAt, moveOutsideRam, noScreen, noTree, wordHalt, haltNumber}
+use Rattle.instructions.specs.Step.{Machine, together, withRegisters, withPlace, withFlags, withHalt, withTree, afterResult, afterST}
+use Rattle.instructions.specs.Step.{afterCALL, afterCLS, afterTREESET, grown, afterTREEIN, afterTREEVAL, afterTREEPUT, effect, performed}
+use Rattle.instructions.specs.Step.{isHalted, nextHalt, step}
 use Rattle.instructions.specs.Run.{run, isCounted, steps, illFormed}
 use Rattle.instructions.proofs.Leaves.{leaves-same}
 use Rattle.instructions.proofs.Halts.{NoHalt, in-program, goes-on, CLS-shown, TREEVAL-planted, TREEPUT-planted}
@@ -100,7 +102,8 @@ module _ (p : Starts) (m : Machine) (r : List ℕ)
   st = m .state
 
   effect-alike : (w : ℕ) → NoHalt (length (m .ram)) st w → KeepsToPixels w → Alike p (effect m w) (effect like w)
-  unfolding effect afterResult afterST afterCALL afterCLS afterTREESET grown afterTREEIN afterTREEVAL afterTREEPUT withRegisters withFlags withTree
+  unfolding effect afterResult afterST afterCALL afterCLS afterTREESET afterTREEIN afterTREEVAL afterTREEPUT
+      grown withRegisters withFlags withTree
   effect-alike w n (noRead, noWrite, noScrset) =
       pick₂ (Alike p) (setsFlags (opcode w)) (λ e. record { state = refl; memory = refl; pixels = same }) λ e.
       pick₂ (Alike p) (eqb (opcode w) ST) (λ e. record { state = refl; memory = refl; pixels = same }) λ e.

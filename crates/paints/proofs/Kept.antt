@@ -12,10 +12,12 @@ use lib.Dec.{eqb}
 use borrow.Author.Tests.{eqb-true}
 use Rattle.rules.proofs.Pixels.{and-r}
 use Rattle.order.specs.Pointwise.{Elsewhere}
-use Rattle.instructions.specs.Opcodes.{WRITE, SCRSET, CLS, TREEPUT}
+use Rattle.instructions.specs.Opcodes.{SCRSET, CLS, TREEPUT}
 use Rattle.instructions.specs.Words.{opcode}
 use Rattle.instructions.specs.Halts.{wordAt}
-use Rattle.instructions.specs.Step.{Machine, withRegisters, withPlace, withFlags, withHalt, withTree, afterResult, afterST, afterCALL, afterREAD, afterWRITE, afterCLS, afterTREESET, grown, afterTREEIN, afterTREEVAL, afterTREEPUT, effect, performed, isHalted, nextHalt, step}
+use Rattle.instructions.specs.Step.{Machine, withRegisters, withPlace, withFlags, withTree, afterResult, afterST, afterCALL, afterREAD}
+use Rattle.instructions.specs.Step.{afterWRITE, afterCLS, afterTREESET, grown, afterTREEIN, afterTREEVAL, afterTREEPUT, effect, performed}
+use Rattle.instructions.specs.Step.{isHalted, nextHalt, step}
 use Rattle.instructions.specs.Run.{run, isCounted, illFormed}
 use Rattle.instructions.proofs.Halts.{in-program}
 use Rattle.instructions.proofs.Effects.{effect-has}
@@ -26,7 +28,8 @@ use Rattle.paints.proofs.Steps.{uncounted-keeps, CLS-paints, TREEPUT-pa
 
 -- SCRSET alone changes the screen
 effect-keeps-screen : (m : Machine) (w : ℕ) → opcode w ≢ SCRSET → effect m w .state .screen ≡ m .state .screen
-unfolding afterResult afterST afterCALL afterREAD afterWRITE afterCLS afterTREESET grown afterTREEIN afterTREEVAL afterTREEPUT withRegisters withFlags withTree
+unfolding afterResult afterST afterCALL afterREAD afterWRITE afterCLS afterTREESET afterTREEIN afterTREEVAL afterTREEPUT
+    grown withRegisters withFlags withTree
 effect-keeps-screen m w d =
     effect-has (λ k. k .state .screen ≡ m .state .screen) m w
     (record {

@@ -54,7 +54,10 @@ module _ {s : Screen} {at : ℕ → ℕ → ℕ} {p : Paint} {m after : List ℕ
       go false e = read (l .stays x y (o .across) (o .down) e)
 
   -- in half-words
-  laid-half : Laid s at p m after → (x y : ℕ) → On s x y → loadHalf after (at x y) ≡ choose (p .picks x y) (p .value x y) (loadHalf m (at x y))
+  laid-half : Laid s at p m after
+      → (x y : ℕ)
+      → On s x y
+      → loadHalf after (at x y) ≡ choose (p .picks x y) (p .value x y) (loadHalf m (at x y))
   unfolding loadHalf
   laid-half l x y o = ap joined (laid-bytes l x y o) ∙ go (p .picks x y)
     where

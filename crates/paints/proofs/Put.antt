@@ -1,6 +1,6 @@
 -- TREEPUT pixel by pixel: each leaf touches its own pixel's cell and no other, so after sixteen turns the cells are known, and with them
 -- the memory.
-use Prim.Native.Nat.{ℕ, _+_, _-_, _≤_, _<_}
+use Prim.Native.Nat.{ℕ, _+_, _≤_, _<_}
 use mathlib.Core.Path.{_≡_, refl, sym, _∙_, ap}
 use mathlib.Core.Logic.{_⊎_, inl, inr}
 use mathlib.Core.Bool.{Bool, true, false, _&&_, false≢true}
@@ -14,7 +14,8 @@ use Rattle.rules.specs.Folds.{choose}
 use Rattle.ram.specs.Ram.{storeHalf}
 use Rattle.rules.specs.Sizes.{sound, colourAt, depthAt, putPixel}
 use Rattle.ram.proofs.Halves.{Bytes, split, bytes, length-storeHalf, byte-stored-other, bytes-stored-same, bytes-stored-other}
-use Rattle.rules.proofs.Pixels.{On, Other, Sound, and-l, and-r, sound-facts, other?, colour-fits, colour-apart, colour-depth-apart, Cell, cell}
+use Rattle.rules.proofs.Pixels.{On, Other, Sound, and-l, and-r, sound-facts, other?, colour-fits, colour-apart, colour-depth-apart, Cell}
+use Rattle.rules.proofs.Pixels.{cell}
 use Rattle.rules.proofs.Memory.{Touched, Below, Only, touched-folds, touched-same, touched-put}
 use Rattle.instructions.specs.declared.Tree.{Tree}
 use Rattle.instructions.specs.Tree.{leafColour, leafDepth, refusesPlace, isPut, leafPut, treePut}

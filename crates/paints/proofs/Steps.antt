@@ -1,28 +1,27 @@
 -- What a step paints: of a well-formed state, each instruction finds the sound screen and the tree's place that its painting needs.
 use Prim.Native.Nat.{ℕ, _<_}
-use mathlib.Core.Path.{_≡_, refl, sym, _∙_, ap, subst}
+use mathlib.Core.Path.{_≡_, refl, _∙_, ap}
 use mathlib.Core.Logic.{_≢_}
 use mathlib.Core.Bool.{Bool, true, false, _&&_, _||_, not, true≢false}
 use mathlib.Core.List.{List}
-use lib.ListN.{length, getD}
+use lib.ListN.{length}
 use lib.Dec.{eqb}
 use borrow.Author.Tests.{eqb-true}
 use Rattle.rules.specs.declared.Screen.{Screen}
 use Rattle.rules.specs.Folds.{choose}
-use Rattle.rules.specs.Sizes.{width, height, sound}
+use Rattle.rules.specs.Sizes.{width, height}
 use Rattle.rules.specs.Triangles.{topHalf}
 use Rattle.rules.proofs.Pixels.{and-r}
-use Rattle.order.specs.Pointwise.{Elsewhere}
 use Rattle.instructions.specs.declared.Tree.{Tree}
-use Rattle.instructions.specs.declared.State.{State}
 use Rattle.instructions.specs.Opcodes.{WRITE, CLS, TREEVAL, TREEPUT}
 use Rattle.instructions.specs.Words.{opcode, imm, inR1, inR2}
 use Rattle.instructions.specs.Arithmetic.{lowHalf}
-use Rattle.instructions.specs.Tree.{markI, markO, leafColour, refusesPlace, leafValue, treeVal, treePut}
+use Rattle.instructions.specs.Tree.{markI, markO, leafColour, leafValue}
 use Rattle.instructions.specs.Halts.{wordAt}
-use Rattle.instructions.specs.Step.{Machine, withState, withRegisters, withPlace, withFlags, withHalt, withScreen, withTree, afterResult, afterST, afterCALL, afterREAD, afterSCRSET, afterCLS, afterTREESET, grown, afterTREEIN, afterTREEVAL, afterTREEPUT, effect, performed, isHalted, nextHalt, step}
+use Rattle.instructions.specs.Step.{Machine, withState, withHalt, afterResult, afterST, afterCALL, afterREAD, afterSCRSET, afterCLS}
+use Rattle.instructions.specs.Step.{afterTREESET, grown, afterTREEIN, afterTREEVAL, afterTREEPUT, effect, performed, isHalted, nextHalt}
+use Rattle.instructions.specs.Step.{step}
 use Rattle.instructions.specs.Run.{isCounted, illFormed}
-use Rattle.instructions.proofs.Picks.{pick}
 use Rattle.instructions.proofs.Leaves.{Leaf, leaf-TREEVAL-depth}
 use Rattle.instructions.proofs.Halts.{NoHalt, goes-on, CLS-shown, TREEVAL-planted, TREEPUT-planted}
 use Rattle.instructions.proofs.Effects.{effect-has, effect-CLS, effect-TREEPUT}
