@@ -79,30 +79,34 @@ module _ {program memory ram memory₁ ram₁ memory₂ ram₂ : List ℕ} {m n 
           let end : Machine = together (second .after) memory₂ ram₂ in
           let run₁ : Runs program m from 0 (p .steps) mid = subst (λ k. Runs program m from k (p .steps) mid) e (first .runs) in
           let (none, both) = runs-add run₁ (runs-of-equal (lent-again first e) (second .runs)) in
-          let ended : LentState = lentState (second .after) in
-          (none ∙ sym e, record {
-            after = second .after;
-            runs = subst (λ k. Runs program (m + n) from k (p .steps + q .steps) end) (sym none) both;
-            answers = second .answers
-                ∙ accepted-yes (q .number) ended (p .state) none
-                ∙ sym (accepted-yes (q .number) ended given none);
-          })
+          let ended : LentState = lentState (second .after) in (
+            none ∙ sym e,
+            record {
+              after = second .after;
+              runs = subst (λ k. Runs program (m + n) from k (p .steps + q .steps) end) (sym none) both;
+              answers = second .answers
+                  ∙ accepted-yes (q .number) ended (p .state) none
+                  ∙ sym (accepted-yes (q .number) ended given none);
+            },
+          )
       go (no d) =
           let (same, u) = second-refused d in
           let from : Machine = together (stateOf given) memory ram in
           let number : ℕ = runNumber program from in
           let no : number ≢ 0 = λ e. d (first .runs .answers ∙ e) in
           let none : p .steps + q .steps ≡ 0 = omega (arith, lent-refused first d .no-steps, u .no-steps) in
-          let left : together (stateOf given) memory₂ ram₂ ≡ from = ap₂ (together (stateOf given)) (u .same-memory) (u .same-ram) in
-          (same, record {
-            after = stateOf given;
-            runs = record {
-              answers = same ∙ first .runs .answers;
-              counts = none ∙ sym (accepted-no number (steps program (m + n) from) 0 no);
-              leaves = left ∙ sym (accepted-no number (run program (m + n) from) from no);
-            };
-            answers = u .same-state ∙ sym (accepted-no (q .number) (lentState (stateOf given)) given (λ e. d (sym same ∙ e)));
-          })
+          let left : together (stateOf given) memory₂ ram₂ ≡ from = ap₂ (together (stateOf given)) (u .same-memory) (u .same-ram) in (
+            same,
+            record {
+              after = stateOf given;
+              runs = record {
+                answers = same ∙ first .runs .answers;
+                counts = none ∙ sym (accepted-no number (steps program (m + n) from) 0 no);
+                leaves = left ∙ sym (accepted-no number (run program (m + n) from) from no);
+              };
+              answers = u .same-state ∙ sym (accepted-no (q .number) (lentState (stateOf given)) given (λ e. d (sym same ∙ e)));
+            },
+          )
 
   -- so a call of m + n steps, where the 64 bits of its count hold the sum, answers and leaves what the two did
   pub one-call-for-two : {r : LentRan} {memory₃ ram₃ : List ℕ}

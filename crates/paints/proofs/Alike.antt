@@ -54,11 +54,11 @@ painted-alike : (p : Starts) {s : Screen} {colour depth : Paint} {m k m′ k′ 
     → SamePixels s m′ (screenAt p s) k′
 painted-alike p {s} {colour} {depth} f g h x y a b = (
   colour-after f x y a b
-  ∙ ap (choose (colour .picks x y) (colour .value x y)) (h x y a b .0)
-  ∙ sym (colour-after g x y a b),
+      ∙ ap (choose (colour .picks x y) (colour .value x y)) (h x y a b .0)
+      ∙ sym (colour-after g x y a b),
   depth-after f x y a b
-  ∙ ap (choose (depth .picks x y) (depth .value x y)) (h x y a b .1)
-  ∙ sym (depth-after g x y a b),
+      ∙ ap (choose (depth .picks x y) (depth .value x y)) (h x y a b .1)
+      ∙ sym (depth-after g x y a b),
 )
 
 -- TREEVAL judges by equal depths
@@ -237,8 +237,8 @@ module _ (p : Starts) (program : List ℕ) where
   run-alike (suc n) m k a good good′ h =
       let (b, c) = step-alike m k a good good′ (h 0 (omega arith)) in
       let (d, e) =
-          run-alike n (step program m) (step program k) b
-          (step-well-formed program m good) (step-well-formed program k good′)
-          (λ i l. h (suc i) (omega arith))
+      run-alike n (step program m) (step program k) b
+      (step-well-formed program m good) (step-well-formed program k good′)
+      (λ i l. h (suc i) (omega arith))
       in
       (d, ap₂ (λ t j. bit t + j) c e)
