@@ -15,7 +15,7 @@ use Rattle.instructions.specs.declared.Tree.{Tree}
 use Rattle.instructions.specs.declared.State.{State}
 use Rattle.instructions.specs.Opcodes.{ST, CALL, READ, WRITE, SCRSET, CLS, TREESET, TREEIN, TREEVAL, TREEPUT}
 use Rattle.instructions.specs.Words.{opcode, imm, inR1, inR2}
-use Rattle.instructions.specs.Arithmetic.{setsFlags, lowHalf}
+use Rattle.instructions.specs.Arithmetic.{setsFlags}
 use Rattle.instructions.specs.Jumps.{nextPlace}
 use Rattle.instructions.specs.Tree.{leaves, markI, markO, leafValue, refusesPlace, storedDepth, marked, deepened, treeDepth, treeColour}
 use Rattle.instructions.specs.Tree.{treeVal}
@@ -29,11 +29,10 @@ use Rattle.instructions.proofs.Halts.{NoHalt, in-program, goes-on, CLS-shown, T
 use Rattle.instructions.proofs.Standing.{leaf-on}
 use Rattle.instructions.proofs.Run.{step-halted, step-halting, step-counted}
 use Rattle.instructions.proofs.WellFormed.{WellFormed, well-formed-facts, step-well-formed}
-use Rattle.paints.specs.Paint.{Paint, PaintedWith}
 use Rattle.paints.specs.Runs.{ComesTo, KeepsToPixels}
 use Rattle.paints.specs.Alike.{Starts, screenAt, stateAt, SamePixels, Alike}
-use Rattle.paints.proofs.Painted.{colour-after, depth-after, clear-paints}
 use Rattle.paints.proofs.Put.{tree-put-paints}
+use Rattle.paints.proofs.Same.{painted-alike, cleared-alike}
 
 -- a relation that holds on both ways of one test
 pick₂ : {A B : Type 0} (R : A → B → Type 0) (t : Bool) {x y : A} {x′ y′ : B}
@@ -45,21 +44,6 @@ pick₂ R t {x} {y} {x′} {y′} p q = go t p q
     go : (c : Bool) → (c ≡ true → R x x′) → (c ≡ false → R y y′) → R (choose c x y) (choose c x′ y′)
     go true p q = p refl
     go false p q = q refl
-
--- one painting on two screens
-painted-alike : (p : Starts) {s : Screen} {colour depth : Paint} {m k m′ k′ : List ℕ}
-    → PaintedWith s colour depth m m′
-    → PaintedWith (screenAt p s) colour depth k k′
-    → SamePixels s m (screenAt p s) k
-    → SamePixels s m′ (screenAt p s) k′
-painted-alike p {s} {colour} {depth} f g h x y a b = (
-  colour-after f x y a b
-      ∙ ap (choose (colour .picks x y) (colour .value x y)) (h x y a b .0)
-      ∙ sym (colour-after g x y a b),
-  depth-after f x y a b
-      ∙ ap (choose (depth .picks x y) (depth .value x y)) (h x y a b .1)
-      ∙ sym (depth-after g x y a b),
-)
 
 -- TREEVAL judges by equal depths
 module _ (p : Starts) (s : Screen) (r r′ : List ℕ) (same : SamePixels s r (screenAt p s) r′)
@@ -114,7 +98,9 @@ module _ (p : Starts) (m : Machine) (r : List ℕ)
       pick₂ (Alike p) (eqb (opcode w) CLS) (λ e. record {
         state = refl;
         memory = refl;
-        pixels = cleared-alike (CLS-shown n (eqb-true (opcode w) CLS e));
+        pixels =
+            let shown = CLS-shown n (eqb-true (opcode w) CLS e) in
+            cleared-alike p (st .screen) (m .ram) r same (good .screenSound shown) (good′ .screenSound shown) _ _;
       }) λ e.
       pick₂ (Alike p) (eqb (opcode w) TREESET) (λ e. record { state = refl; memory = refl; pixels = same }) λ e.
       pick₂ (Alike p) (eqb (opcode w) TREEIN) (λ e. record { state = refl; memory = refl; pixels = same }) λ e.
@@ -134,13 +120,6 @@ module _ (p : Starts) (m : Machine) (r : List ℕ)
           → treeVal (imm w) (screenAt p (st .screen)) r (inR1 (st .regs) w) (inR2 (st .regs) w) (st .tree)
           ≡ treeVal (imm w) (st .screen) (m .ram) (inR1 (st .regs) w) (inR2 (st .regs) w) (st .tree)
       judged h = judged-alike p (st .screen) (m .ram) r same (st .tree) (good .treePlace h) (inR1 (st .regs) w) (inR2 (st .regs) w) (imm w)
-
-      cleared-alike : st .shown ≡ true → SamePixels (st .screen) (afterCLS m w .ram) (screenAt p (st .screen)) (afterCLS like w .ram)
-      cleared-alike h =
-          painted-alike p
-          (clear-paints (st .screen) (m .ram) (good .screenSound h) (lowHalf (inR1 (st .regs) w)) (lowHalf (inR2 (st .regs) w)))
-          (clear-paints (screenAt p (st .screen)) r (good′ .screenSound h) (lowHalf (inR1 (st .regs) w)) (lowHalf (inR2 (st .regs) w)))
-          same
 
       put-alike : st .planted ≡ true → SamePixels (st .screen) (afterTREEPUT m .ram) (screenAt p (st .screen)) (afterTREEPUT like .ram)
       put-alike h =

@@ -1,6 +1,6 @@
 -- What a painting program leaves: where neither WRITE nor SCRSET is carried out, the screen stays, and with it every byte that is no
 -- pixel's. CLS and TREEPUT say so of themselves, no other word touches the RAM, and the run is its steps.
-use Prim.Native.Nat.{ℕ, zero, suc, _<_}
+use Prim.Native.Nat.{ℕ, zero, suc, _≤_, _<_}
 use mathlib.Core.Path.{_≡_, refl, sym, _∙_, ap, subst}
 use mathlib.Core.Logic.{_≢_}
 use mathlib.Core.Bool.{Bool, true, false, not}
@@ -23,7 +23,7 @@ use Rattle.instructions.proofs.Halts.{in-program}
 use Rattle.instructions.proofs.Effects.{effect-has}
 use Rattle.instructions.proofs.Run.{step-counted}
 use Rattle.instructions.proofs.WellFormed.{step-well-formed}
-use Rattle.paints.specs.Runs.{CarriesOut, KeepsToScreen}
+use Rattle.paints.specs.Runs.{CarriesOut, KeepsToScreen, KeepsToPixels}
 use Rattle.paints.proofs.Steps.{uncounted-keeps, CLS-paints, TREEPUT-paints, paints-nothing}
 
 -- SCRSET alone changes the screen
@@ -46,6 +46,10 @@ effect-keeps-screen m w d =
       onTREEPUT = λ e. refl;
       onJump = refl;
     })
+
+-- CLS and the four TREE instructions do neither, and read nothing but pixels
+pub drawing-words : (w : ℕ) → CLS ≤ opcode w → KeepsToScreen w × KeepsToPixels w
+drawing-words w h = ((λ e. omega arith, λ e. omega arith), (λ e. omega arith, λ e. omega arith, λ e. omega arith))
 
 module _ (program : List ℕ) where
   -- one step

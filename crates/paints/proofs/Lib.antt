@@ -3,4 +3,5 @@ pub mod Painted
 pub mod Put
 pub mod Steps
 pub mod Kept
+pub mod Same
 pub mod Alike

@@ -4,6 +4,7 @@ use mathlib.Core.Path.{_≡_, refl, _∙_, ap}
 use mathlib.Core.Logic.{_≢_}
 use mathlib.Core.Bool.{Bool, true, false, _&&_, _||_, not, true≢false}
 use mathlib.Core.List.{List}
+use native.Mathlib.Omega.{arith}
 use lib.ListN.{length}
 use lib.Dec.{eqb}
 use borrow.Author.Tests.{eqb-true}
@@ -13,7 +14,7 @@ use Rattle.rules.specs.Sizes.{width, height}
 use Rattle.rules.specs.Triangles.{topHalf}
 use Rattle.rules.proofs.Pixels.{and-r}
 use Rattle.instructions.specs.declared.Tree.{Tree}
-use Rattle.instructions.specs.Opcodes.{WRITE, CLS, TREEVAL, TREEPUT}
+use Rattle.instructions.specs.Opcodes.{WRITE, CLS, TREESET, TREEIN, TREEVAL, TREEPUT}
 use Rattle.instructions.specs.Words.{opcode, imm, inR1, inR2}
 use Rattle.instructions.specs.Arithmetic.{lowHalf}
 use Rattle.instructions.specs.Tree.{markI, markO, leafColour, leafValue}
@@ -115,9 +116,18 @@ module _ (program : List ℕ) (m : Machine) (good : illFormed (length (m .ram)) 
         rw (ram-after, at, effect-TREEPUT m w e)
         (tree-put-paints screen (m .ram) (facts .screenSound (facts .treeShown planted)) tree (facts .treePlace planted))
 
-    -- TREESET, TREEIN and TREEVAL, and all others but WRITE
+    -- all others but WRITE
     pub paints-nothing : opcode w ≢ WRITE → opcode w ≢ CLS → opcode w ≢ TREEPUT → step program m .ram ≡ m .ram
     paints-nothing p q r = ram-after ∙ ap (λ v. effect m v .ram) at ∙ effect-keeps-ram m w p q r
+
+    pub TREESET-paints-nothing : opcode w ≡ TREESET → step program m .ram ≡ m .ram
+    TREESET-paints-nothing e = paints-nothing (λ q. omega arith) (λ q. omega arith) (λ q. omega arith)
+
+    pub TREEIN-paints-nothing : opcode w ≡ TREEIN → step program m .ram ≡ m .ram
+    TREEIN-paints-nothing e = paints-nothing (λ q. omega arith) (λ q. omega arith) (λ q. omega arith)
+
+    pub TREEVAL-paints-nothing : opcode w ≡ TREEVAL → step program m .ram ≡ m .ram
+    TREEVAL-paints-nothing e = paints-nothing (λ q. omega arith) (λ q. omega arith) (λ q. omega arith)
 
     -- TREEVAL 0 judges each leaf against the stored depth of its pixel, a pixel of the screen
     pub TREEVAL-judges : opcode w ≡ TREEVAL → imm w ≡ 0 → (k : ℕ) → k < 16
