@@ -14,19 +14,19 @@ use Rattle.instructions.specs.Jumps.{isJump}
 use Rattle.instructions.specs.Step.{Machine, withRegisters, withPlace, withFlags, withScreen, withTree, afterResult, afterST, afterCALL, afterREAD, afterWRITE, afterSCRSET, afterCLS, afterTREESET, grown, afterTREEIN, afterTREEVAL, afterTREEPUT, effect, performed}
 use Rattle.instructions.proofs.Picks.{pick}
 
--- P holds after each instruction
+-- P holds after each instruction; from WRITE on, the opcode is told with it
 pub record EachEffect (P : Machine → Type 0) (m : Machine) (w : ℕ) : Type 0 where
   pub onResult : P (afterResult m w)
   pub onST : P (afterST m w)
   pub onCALL : P (afterCALL m)
   pub onREAD : P (afterREAD m w)
-  pub onWRITE : P (afterWRITE m w)
+  pub onWRITE : opcode w ≡ WRITE → P (afterWRITE m w)
   pub onSCRSET : opcode w ≡ SCRSET → P (afterSCRSET m w)
-  pub onCLS : P (afterCLS m w)
+  pub onCLS : opcode w ≡ CLS → P (afterCLS m w)
   pub onTREESET : opcode w ≡ TREESET → P (afterTREESET m w)
   pub onTREEIN : opcode w ≡ TREEIN → P (afterTREEIN m w)
   pub onTREEVAL : opcode w ≡ TREEVAL → P (afterTREEVAL m w)
-  pub onTREEPUT : P (afterTREEPUT m)
+  pub onTREEPUT : opcode w ≡ TREEPUT → P (afterTREEPUT m)
   pub onJump : P m
 
 pub effect-has : (P : Machine → Type 0) (m : Machine) (w : ℕ) → EachEffect P m w → P (effect m w)
@@ -36,13 +36,13 @@ effect-has P m w c =
     pick P (eqb (opcode w) ST) (λ e. c .onST) λ e.
     pick P (eqb (opcode w) CALL) (λ e. c .onCALL) λ e.
     pick P (eqb (opcode w) READ) (λ e. c .onREAD) λ e.
-    pick P (eqb (opcode w) WRITE) (λ e. c .onWRITE) λ e.
+    pick P (eqb (opcode w) WRITE) (λ e. c .onWRITE (eqb-true (opcode w) WRITE e)) λ e.
     pick P (eqb (opcode w) SCRSET) (λ e. c .onSCRSET (eqb-true (opcode w) SCRSET e)) λ e.
-    pick P (eqb (opcode w) CLS) (λ e. c .onCLS) λ e.
+    pick P (eqb (opcode w) CLS) (λ e. c .onCLS (eqb-true (opcode w) CLS e)) λ e.
     pick P (eqb (opcode w) TREESET) (λ e. c .onTREESET (eqb-true (opcode w) TREESET e)) λ e.
     pick P (eqb (opcode w) TREEIN) (λ e. c .onTREEIN (eqb-true (opcode w) TREEIN e)) λ e.
     pick P (eqb (opcode w) TREEVAL) (λ e. c .onTREEVAL (eqb-true (opcode w) TREEVAL e)) λ e.
-    pick P (eqb (opcode w) TREEPUT) (λ e. c .onTREEPUT) λ e.
+    pick P (eqb (opcode w) TREEPUT) (λ e. c .onTREEPUT (eqb-true (opcode w) TREEPUT e)) λ e.
     c .onJump
 
 -- at each opcode
@@ -123,13 +123,13 @@ effect-halt m w =
       onST = refl;
       onCALL = refl;
       onREAD = refl;
-      onWRITE = refl;
+      onWRITE = λ e. refl;
       onSCRSET = λ e. refl;
-      onCLS = refl;
+      onCLS = λ e. refl;
       onTREESET = λ e. refl;
       onTREEIN = λ e. refl;
       onTREEVAL = λ e. refl;
-      onTREEPUT = refl;
+      onTREEPUT = λ e. refl;
       onJump = refl;
     })
 

@@ -79,13 +79,13 @@ effect-keeps-lengths m w =
       onST = record { memory = length-set (m .memory) _ _; ram = refl; registers = refl };
       onCALL = record { memory = refl; ram = refl; registers = length-write (m .state .regs) _ _ };
       onREAD = record { memory = length-wordsRead (m .ram) _ _ (m .memory); ram = refl; registers = refl };
-      onWRITE = record { memory = refl; ram = length-wordsWritten (m .memory) _ _ (m .ram); registers = refl };
+      onWRITE = λ e. record { memory = refl; ram = length-wordsWritten (m .memory) _ _ (m .ram); registers = refl };
       onSCRSET = λ e. record { memory = refl; ram = refl; registers = refl };
-      onCLS = record { memory = refl; ram = length-cleared (m .state .screen) _ _ (m .ram); registers = refl };
+      onCLS = λ e. record { memory = refl; ram = length-cleared (m .state .screen) _ _ (m .ram); registers = refl };
       onTREESET = λ e. record { memory = refl; ram = refl; registers = refl };
       onTREEIN = λ e. record { memory = refl; ram = refl; registers = length-write (m .state .regs) _ _ };
       onTREEVAL = λ e. record { memory = refl; ram = refl; registers = length-write (m .state .regs) _ _ };
-      onTREEPUT = record { memory = refl; ram = length-treePut (m .state .screen) (m .state .tree) (m .ram); registers = refl };
+      onTREEPUT = λ e. record { memory = refl; ram = length-treePut (m .state .screen) (m .state .tree) (m .ram); registers = refl };
       onJump = same m;
     })
 
@@ -108,80 +108,95 @@ unfolding run
 run-keeps-lengths program zero m = same m
 run-keeps-lengths program (suc n) m = lengths-then (step-keeps-lengths program m) (run-keeps-lengths program n (step program m))
 
--- "Sixteen leaves"
-pub record Sixteen (t : Tree) : Type 0 where
+-- what each TREE instruction keeps of the tree, a run keeps
+pub record TreesKeep (P : Tree → Type 0) : Type 0 where
+  pub byTREESET : (column row mask : ℕ) → P (treeSet column row mask)
+  pub byTREEIN : (a b : ℕ) (t : Tree) → P t → P (treeIn a b t)
+  pub byTREEVAL : (part : ℕ) (s : Screen) (ram : List ℕ) (a b : ℕ) (t : Tree) → P t → P (treeVal part s ram a b t)
+
+module _ (P : Tree → Type 0) (kept : TreesKeep P) where
+  effect-keeps-tree : (m : Machine) (w : ℕ) → P (m .state .tree) → P (effect m w .state .tree)
+  unfolding afterResult afterST afterCALL afterREAD afterWRITE afterSCRSET afterCLS afterTREESET afterTREEIN afterTREEVAL afterTREEPUT
+      grown withRegisters withFlags withScreen withTree
+  effect-keeps-tree m w h =
+      effect-has (λ k. P (k .state .tree)) m w
+      (record {
+        onResult = h;
+        onST = h;
+        onCALL = h;
+        onREAD = h;
+        onWRITE = λ e. h;
+        onSCRSET = λ e. h;
+        onCLS = λ e. h;
+        onTREESET = λ e. kept .byTREESET _ _ _;
+        onTREEIN = λ e. kept .byTREEIN _ _ _ h;
+        onTREEVAL = λ e. kept .byTREEVAL _ _ _ _ _ _ h;
+        onTREEPUT = λ e. h;
+        onJump = h;
+      })
+
+  pub step-keeps-tree : (program : List ℕ) (m : Machine) → P (m .state .tree) → P (step program m .state .tree)
+  unfolding step performed withPlace withHalt
+  step-keeps-tree program m h =
+      pick (λ (k : Machine). P (k .state .tree)) (isHalted m) (λ e. h)
+      (λ e. pick (λ (k : Machine). P (k .state .tree)) (eqb (nextHalt program m) 0)
+      (λ f. effect-keeps-tree m (wordAt program (m .state)) h)
+      (λ f. h))
+
+  pub run-keeps-tree : (program : List ℕ) (n : ℕ) (m : Machine) → P (m .state .tree) → P (run program n m .state .tree)
+  unfolding run
+  run-keeps-tree program zero m h = h
+  run-keeps-tree program (suc n) m h = run-keeps-tree program n (step program m) (step-keeps-tree program m h)
+
+-- "Sixteen leaves": of the marks alone, since those of any lent state are sixteen, and of all four
+pub record SixteenMarks (t : Tree) : Type 0 where
   pub marksI : length (t .inside) ≡ 16
   pub marksO : length (t .outside) ≡ 16
+
+pub record Sixteen (t : Tree) : Type 0 where
+  pub marks : SixteenMarks t
   pub colours : length (t .colour) ≡ 16
   pub depths : length (t .depth) ≡ 16
 
-sixteen-TREESET : (column row mask : ℕ) → Sixteen (treeSet column row mask)
-unfolding treeSet
-sixteen-TREESET column row mask = record {
-  marksI = length-each (maskBit mask) 16;
-  marksO = length-each _ 16;
-  colours = length-each _ 16;
-  depths = length-each _ 16;
+marks-kept : TreesKeep SixteenMarks
+unfolding treeSet treeIn treeVal treeDepth marked deepened treeColour
+marks-kept = record {
+  byTREESET = λ column row mask. record { marksI = length-each (maskBit mask) 16; marksO = length-each _ 16 };
+  byTREEIN = λ a b t h. record { marksI = length-each _ 16; marksO = length-each _ 16 };
+  byTREEVAL = λ part s ram a b t h.
+      pick SixteenMarks (eqb part 0)
+      (λ e. record { marksI = length-each _ 16; marksO = length-each _ 16 })
+      (λ e. record { marksI = h .marksI; marksO = h .marksO });
 }
 
-sixteen-TREEIN : (a b : ℕ) {t : Tree} → Sixteen t → Sixteen (treeIn a b t)
-unfolding treeIn marked
-sixteen-TREEIN a b h = record {
-  marksI = length-each _ 16;
-  marksO = length-each _ 16;
-  colours = h .colours;
-  depths = h .depths;
+pub run-keeps-marks : (program : List ℕ) (n : ℕ) (m : Machine)
+    → SixteenMarks (m .state .tree)
+    → SixteenMarks (run program n m .state .tree)
+run-keeps-marks = run-keeps-tree SixteenMarks marks-kept
+
+sixteen-kept : TreesKeep Sixteen
+unfolding treeSet treeIn treeVal treeDepth marked deepened treeColour
+sixteen-kept = record {
+  byTREESET = λ column row mask. record {
+    marks = marks-kept .byTREESET column row mask;
+    colours = length-each _ 16;
+    depths = length-each _ 16;
+  };
+  byTREEIN = λ a b t h. record { marks = marks-kept .byTREEIN a b t (h .marks); colours = h .colours; depths = h .depths };
+  byTREEVAL = λ part s ram a b t h. pick Sixteen (eqb part 0)
+      (λ e. record {
+        marks = record { marksI = length-each _ 16; marksO = length-each _ 16 };
+        colours = h .colours;
+        depths = length-each _ 16;
+      })
+      (λ e. record {
+        marks = record { marksI = h .marks .marksI; marksO = h .marks .marksO };
+        colours = length-each _ 16;
+        depths = h .depths;
+      });
 }
-
-sixteen-TREEVAL : (part : ℕ) (s : Screen) (ram : List ℕ) (a b : ℕ) {t : Tree} → Sixteen t → Sixteen (treeVal part s ram a b t)
-unfolding treeVal treeDepth marked deepened treeColour
-sixteen-TREEVAL part s ram a b h =
-    pick Sixteen (eqb part 0)
-    (λ e. record {
-      marksI = length-each _ 16;
-      marksO = length-each _ 16;
-      colours = h .colours;
-      depths = length-each _ 16;
-    })
-    (λ e. record {
-      marksI = h .marksI;
-      marksO = h .marksO;
-      colours = length-each _ 16;
-      depths = h .depths;
-    })
-
-effect-keeps-sixteen : (m : Machine) (w : ℕ) → Sixteen (m .state .tree) → Sixteen (effect m w .state .tree)
-unfolding afterResult afterST afterCALL afterREAD afterWRITE afterSCRSET afterCLS afterTREESET grown afterTREEIN afterTREEVAL afterTREEPUT withRegisters withFlags withScreen withTree
-effect-keeps-sixteen m w h =
-    effect-has (λ k. Sixteen (k .state .tree)) m w
-    (record {
-      onResult = h;
-      onST = h;
-      onCALL = h;
-      onREAD = h;
-      onWRITE = h;
-      onSCRSET = λ e. h;
-      onCLS = h;
-      onTREESET = λ e. sixteen-TREESET _ _ _;
-      onTREEIN = λ e. sixteen-TREEIN _ _ h;
-      onTREEVAL = λ e. sixteen-TREEVAL _ _ _ _ _ h;
-      onTREEPUT = h;
-      onJump = h;
-    })
-
-pub step-keeps-sixteen : (program : List ℕ) (m : Machine)
-    → Sixteen (m .state .tree)
-    → Sixteen (step program m .state .tree)
-unfolding step performed withPlace withHalt
-step-keeps-sixteen program m h =
-    pick (λ (k : Machine). Sixteen (k .state .tree)) (isHalted m) (λ e. h)
-    (λ e. pick (λ (k : Machine). Sixteen (k .state .tree)) (eqb (nextHalt program m) 0)
-    (λ f. effect-keeps-sixteen m (wordAt program (m .state)) h)
-    (λ f. h))
 
 pub run-keeps-sixteen : (program : List ℕ) (n : ℕ) (m : Machine)
     → Sixteen (m .state .tree)
     → Sixteen (run program n m .state .tree)
-unfolding run
-run-keeps-sixteen program zero m h = h
-run-keeps-sixteen program (suc n) m h = run-keeps-sixteen program n (step program m) (step-keeps-sixteen program m h)
+run-keeps-sixteen = run-keeps-tree Sixteen sixteen-kept

@@ -1,6 +1,7 @@
 pub mod Picks
 pub mod Leaves
 pub mod Registers
+pub mod Standing
 pub mod Halts
 pub mod Effects
 pub mod Filled

@@ -164,13 +164,13 @@ module _ (m : Machine) (w : ℕ) where
         onST = h;
         onCALL = written h _ _;
         onREAD = h;
-        onWRITE = h;
+        onWRITE = λ e. h;
         onSCRSET = λ e. screened h _ (SCRSET-sound n e);
-        onCLS = h;
+        onCLS = λ e. h;
         onTREESET = λ e. set-up e;
         onTREEIN = λ e. grows w _ h (TREEIN-planted n e) in-column in-row;
         onTREEVAL = λ e. grows w _ h (TREEVAL-planted n e) (treeVal-column _ _ _ _ _ _) (treeVal-row _ _ _ _ _ _);
-        onTREEPUT = h;
+        onTREEPUT = λ e. h;
         onJump = h;
       })
     where

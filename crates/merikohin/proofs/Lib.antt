@@ -1,3 +1,4 @@
--- What the machine's calls over a lent state rest on, and that they leave no second outcome.
+-- What the machine's calls over a lent state rest on, that they leave no second outcome, and that two in turn are one.
 pub mod Lends
 pub mod Unique
+pub mod Again
