@@ -78,6 +78,15 @@ module _ (t : ℕ → ℕ → Bool) (w : ℕ) where
   pixels-none (suc h) k =
       rw (pixels-none h (λ x y a b. k x y a (up b)), howMany-none (λ x. t x h) w (λ x a. k x h a (le-refl (suc h))))
 
+  pub pixels-same : (u : ℕ → ℕ → Bool) (h : ℕ) → ((x y : ℕ) → x < w → y < h → t x y ≡ u x y) → pixels t w h ≡ pixels u w h
+  unfolding pixels
+  pixels-same u zero k = refl
+  pixels-same u (suc h) k =
+      rw (
+        pixels-same u h (λ x y a b. k x y a (up b)),
+        howMany-same (λ x. t x h) (λ x. u x h) w (λ x a. k x h a (le-refl (suc h))),
+      )
+
   pub pixels-le : (b h : ℕ) → w ≤ b → pixels t w h ≤ b * h
   unfolding pixels
   pixels-le b zero l = omega arith
