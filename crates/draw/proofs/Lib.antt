@@ -2,7 +2,6 @@
 pub mod Affine
 pub mod Stretch
 pub mod Running
-pub mod Counting
 pub mod Touch
 pub mod Refused
 pub mod Rowed

@@ -1,20 +1,33 @@
--- Laws of drawing a stretch of a row: a pixel to come is judged as before the stretch, and pixels that are not covered change nothing.
+-- Laws of drawing a stretch of a row: covered pixels are on the screen, a pixel to come is judged as before the stretch, and pixels that
+-- are not covered change nothing.
 use Prim.Native.Nat.{ℕ, zero, suc, _+_, _≤_}
 use mathlib.Core.Path.{_≡_, refl, _∙_}
 use mathlib.Core.Logic.{inl}
-use mathlib.Core.Bool.{false}
+use mathlib.Core.Bool.{true, false}
 use mathlib.Core.List.{List}
 use native.Mathlib.Omega.{arith}
+use lib.Dec.{ltb}
 use lib.ListN.{length}
+use borrow.Author.Tests.{ltb-true}
 use Rattle.rules.specs.declared.Screen.{Screen}
 use Rattle.rules.specs.declared.Triangle.{Triangle}
 use Rattle.rules.specs.Folds.{upto}
-use Rattle.rules.specs.Triangles.{covered, written, pixelDrawn}
+use Rattle.rules.specs.Sizes.{width, height}
+use Rattle.rules.specs.Triangles.{sample, insideAll, onScreen, covered, written, pixelDrawn}
 use Rattle.rules.proofs.Folds.{upto-keeps}
-use Rattle.rules.proofs.Pixels.{Sound, On}
+use Rattle.rules.proofs.Pixels.{Sound, On, and-l, and-r}
 use Rattle.rules.proofs.Drawing.{length-pixel, written-pixel}
 
 module _ (t : Triangle) (s : Screen) where
+  pub covered-on : {x y : ℕ} → covered t s x y ≡ true → On s x y
+  unfolding covered
+  covered-on {x} {y} h =
+      let o = and-l (onScreen s x y) (insideAll (t .vertices) (sample x y)) h in
+      record {
+        across = ltb-true x (width (s .size)) (and-l _ (ltb y (height (s .size))) o);
+        down = ltb-true y (height (s .size)) (and-r (ltb x (width (s .size))) _ o);
+      }
+
   pub not-written : (m : List ℕ) (x y : ℕ) → covered t s x y ≡ false → written t s m x y ≡ false
   unfolding written
   not-written m x y h = rw h

@@ -25,16 +25,16 @@ pub fn frame(ram: &mut [u8], s: Screen, t: Triangle) -> Counts
     let end = rows.to;
     let mut y = rows.from;
     let mut m = crossings_at(v, y);
-    let mut covered: u32 = 0;
-    let mut written: u32 = 0;
+    let mut c = Counts {
+        covered: 0,
+        written: 0,
+    };
     while y < end {
-        let run = row_span(m, d, w);
-        let c = row(ram, s, t, y, run.from, run.to);
-        // before the counts: after them it costs registers
+        let span = row_span(m, d, w);
+        // the counts go along: added row by row they cost registers
+        c = row(ram, s, t, y, span.from, span.to, c);
         m = crossings_below(m, d);
-        covered += c.covered;
-        written += c.written;
         y += 1;
     }
-    Counts { covered, written }
+    c
 }

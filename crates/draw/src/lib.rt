@@ -1,4 +1,4 @@
-// Drawing a triangle on a screen in lent memory: pixel, run, row, frame, call.
+// Drawing a triangle on a screen in lent memory: pixel, word of pixels, row, frame, call.
 pub mod frames;
 pub mod pixels;
 pub mod planes;
@@ -6,12 +6,10 @@ pub mod rows;
 pub mod touched;
 pub mod triangles;
 
-// The values of the four planes at a pixel.
+// The values of the four planes at a pixel, two to a word: depth (z) above blue, green above red.
 pub struct Tints {
-    pub depth: u32,
-    pub red: u32,
-    pub green: u32,
-    pub blue: u32,
+    pub zb: u64,
+    pub gr: u64,
 }
 
 // How many pixels were covered and how many written.

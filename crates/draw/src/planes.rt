@@ -1,30 +1,35 @@
-// The planes' values at a pixel, and their steps to the right.
+// The planes' values at a pixel, two planes to a word, and their steps to the right.
 use crate::Tints;
 use rules::Plane;
 use rules::Triangle;
-use words::affine32;
+use std::num::wrapping_add_u64;
 use words::bits32;
-use words::sum32;
+use words::pair;
+use words::pair_times;
 ghost use mathlib.Core.Path.{_≡_};
-ghost use Prim.Native.Nat.{_+_, _%_, _<_};
-ghost use Rattle.ints.specs.Modulo.{mod32};
-ghost use Rattle.rules.specs.Triangles.{planeAt, packed};
-ghost use Rattle.draw.specs.Planes.{tintsAt, tintSteps, tintsMoved};
+ghost use Prim.Native.Nat.{_≤_, _<_};
+ghost use Rattle.draw.specs.Planes.{pairOf, pairAt, tintsAt, tintSteps, tintsMoved, tintColour};
 
-fn plane_at(p: Plane, x: u32, y: u32) -> u32
-    ensures { λ r. ⌜ r ≡ planeAt p x y ⌝ }
+// One number of each of two planes. Of the lower plane only bits 16 to 20 are drawn: reduced, it never carries into the upper one.
+fn pair_of(high: i32, low: i32) -> u64
+    ensures { λ r. ⌜ r ≡ pairOf high low ⌝ }
 {
-    affine32(bits32(p.c), bits32(p.a), bits32(p.b), x, y)
+    pair(bits32(high), bits32(low) % 2097152)
 }
 
-fn stepped(v: u32, p: Plane) -> u32
-    ensures { λ r. ⌜ r ≡ (v + mod32 (p .a)) % 4294967296 ⌝ }
+// Two planes at a pixel.
+fn pair_at(high: Plane, low: Plane, x: u32, y: u32) -> u64
+    requires { ⌜ (x ≤ 640) × (y ≤ 480) ⌝ }
+    ensures { λ r. ⌜ r ≡ pairAt high low x y ⌝ }
 {
-    sum32(v, bits32(p.a))
+    let across = pair_times(pair_of(high.a, low.a), x);
+    let down = pair_times(pair_of(high.b, low.b), y);
+    wrapping_add_u64(wrapping_add_u64(pair_of(high.c, low.c), down), across)
 }
 
 // All four planes at a pixel.
 pub fn tints_at(t: Triangle, x: u32, y: u32) -> Tints
+    requires { ⌜ (x ≤ 640) × (y ≤ 480) ⌝ }
     ensures { λ r. ⌜ r ≡ tintsAt t x y ⌝ }
 {
     let depth = t.depth;
@@ -32,10 +37,8 @@ pub fn tints_at(t: Triangle, x: u32, y: u32) -> Tints
     let green = t.green;
     let blue = t.blue;
     Tints {
-        depth: plane_at(depth, x, y),
-        red: plane_at(red, x, y),
-        green: plane_at(green, x, y),
-        blue: plane_at(blue, x, y),
+        zb: pair_at(depth, blue, x, y),
+        gr: pair_at(green, red, x, y),
     }
 }
 
@@ -48,17 +51,18 @@ pub fn tints_right(v: Tints, t: Triangle) -> Tints
     let green = t.green;
     let blue = t.blue;
     Tints {
-        depth: stepped(v.depth, depth),
-        red: stepped(v.red, red),
-        green: stepped(v.green, green),
-        blue: stepped(v.blue, blue),
+        zb: wrapping_add_u64(v.zb, pair_of(depth.a, blue.a)),
+        gr: wrapping_add_u64(v.gr, pair_of(green.a, red.a)),
     }
 }
 
 // The colour half-word.
 pub fn colour_of(v: Tints) -> u32
-    ensures { λ r. ⌜ r ≡ packed (v .red) (v .green) (v .blue) ⌝ }
+    ensures { λ r. ⌜ r ≡ tintColour v ⌝ }
     ensures { λ r. ⌜ r < 65536 ⌝ }
 {
-    v.red / 65536 % 32 * 2048 + v.green / 65536 % 64 * 32 + v.blue / 65536 % 32
+    let red = v.gr / 65536 % 32;
+    let green = v.gr / 281474976710656 % 64;
+    let blue = v.zb / 65536 % 32;
+    (red * 2048 + green * 32 + blue) as u32
 }

@@ -1,6 +1,6 @@
 -- What drawing a pixel, a row, a frame leaves, cell by cell: each pixel's cell is changed at most once, so whether a pixel is written
 -- may be read off the memory before the drawing or at any time before its own step.
-use Prim.Native.Nat.{ℕ, _≤_}
+use Prim.Native.Nat.{ℕ, _≤_, _<_}
 use mathlib.Core.Path.{_≡_, refl, _∙_, ap}
 use mathlib.Core.Logic.{inl, inr}
 use mathlib.Core.Bool.{Bool, true, false, _&&_}
@@ -19,7 +19,7 @@ use Rattle.rules.specs.Calls.{cleared}
 use Rattle.rules.proofs.Folds.{upto-keeps}
 use Rattle.ram.proofs.Halves.{joined}
 use Rattle.rules.proofs.Pixels.{On, Other, Sound, and-l, and-r, Cell, cell, painted, length-putPixel}
-use Rattle.rules.proofs.Memory.{Touched, Only, Rows, touched-same, touched-put, rows-of-steps}
+use Rattle.rules.proofs.Memory.{Touched, Only, Row, Rows, touched-same, touched-put, row-of-steps, rows-of-steps}
 
 -- a covered pixel is a pixel of the screen
 pub covered-on : (t : Triangle) {s : Screen} {x y : ℕ} → covered t s x y ≡ true → On s x y
@@ -78,6 +78,10 @@ module _ {n : ℕ} {s : Screen} (k : Sound n s) (t : Triangle) where
       go true e = touched-put k p (merged t s) m (triangleColour t x y) (triangleDepth t x y) l e
       go false e = touched-same k p (merged t s) m e
 
+  touched-row : (i y : ℕ) (m : List ℕ) → i ≤ width (s .size) → y < height (s .size) → length m ≡ n
+      → Touched s (merged t s) (Row i y) m (upto (pixelDrawn t s y) i m)
+  touched-row i y m a b l = row-of-steps n (pixelDrawn t s) touched-pixel i y m a b l
+
   pub touched-rows : (j : ℕ) (m : List ℕ)
       → j ≤ height (s .size)
       → length m ≡ n
@@ -117,6 +121,11 @@ module _ {n : ℕ} {s : Screen} (k : Sound n s) (t : Triangle) (m : List ℕ) (l
       not-only : {x y x′ y′ : ℕ} → Other x y x′ y′ → ¬ Only y x x′ y′
       not-only (inl d) e = d (e .0)
       not-only (inr d) e = d (e .1)
+
+  pub written-left : {i x y : ℕ} → On s x y → i ≤ x → written t s (upto (pixelDrawn t s y) i m) x y ≡ written t s m x y
+  written-left {i} {x} {y} p h =
+      written-kept t (touched-row k t i y m (omega (arith, p .across)) (p .down) l) p
+      (λ e. omega (arith, e .1, e .2 .0))
 
   pub written-rows : {j x y : ℕ} → On s x y → j ≤ y → written t s (upto (rowDrawn t s) j m) x y ≡ written t s m x y
   written-rows {j} {x} {y} p h =

@@ -5,10 +5,13 @@ use mathlib.Core.List.{List}
 use native.Mathlib.Nat.{add-zero}
 use borrow.Author.Tests.{le-leb, lt-leb}
 use Rattle.ram.specs.Ram.{storeHalf}
-use Rattle.rules.specs.Triangles.{topHalf}
+use Rattle.draw.specs.Planes.{tintDepth}
 use borrow.Author.Needs.{needs}
 use Rattle.draw.proofs.pixels.pixel.Statement.{statement}
 use Rattle.draw.proofs.pixels.pixel.Tie as tie
+
+cast-z : tie.Need-cast-z
+cast-z c = search needs
 
 load-half-requires : tie.Need-load-half-requires
 load-half-requires c κs = search needs
@@ -17,9 +20,10 @@ same-length : tie.Need-same-length
 same-length c = search needs
 
 returns : tie.Need-returns
-unfolding topHalf
 returns c =
-    let f = lt-leb _ _ (subst (λ (n : ℕ). n < c .before .before .before .before .before .args .v .depth / 65536) (c .before .load-half .ensures .value) (c .if1 .taken)) in
+    let a = c .before .before .before .before in
+    let z = tintDepth (a .before .args .v) in
+    let f = lt-leb _ _ (subst (λ (n : ℕ). n < z) (c .before .load-half .ensures .value) (c .if1 .taken)) in
     record { counts = rw f (sym (add-zero _)); leaves = rw f }
 
 store-half-requires : tie.Need-store-half-requires
@@ -38,23 +42,27 @@ same-length-2 : tie.Need-same-length-2
 same-length-2 c = search needs
 
 returns-2 : tie.Need-returns-2
-unfolding topHalf
 returns-2 c =
-    let a = c .before .before .before .before .before .before .before .before .before .before .before .before .before .before .args in
-    let f = le-leb _ _ (subst (λ (n : ℕ). a .v .depth / 65536 ≤ n) (c .before .before .before .before .before .before .before .before .before .before .load-half .ensures .value) (c .before .before .before .before .before .before .before .before .before .if1 .left)) in
-    let k = c .before .before .before .colour-of in
+    let colour = c .before .before .before in
+    let depth = colour .before .before .before .before in
+    let test = depth .before .before in
+    let load = test .before in
+    let a = load .before .before .before .before .args in
+    let z = tintDepth (a .v) in
+    let f = le-leb _ _ (subst (λ (n : ℕ). z ≤ n) (load .load-half .ensures .value) (test .if1 .left)) in
     record {
       counts = rw f;
       leaves = rw f
           (c .before .before .store-half2 .ensures
-          ∙ ap (λ (m : List ℕ). storeHalf m (a .colour) (k .result)) (c .before .before .before .before .before .before .before .store-half .ensures)
-          ∙ ap (storeHalf (storeHalf (a .ram .now) (a .depth) (a .v .depth / 65536)) (a .colour)) (k .ensures .0));
+          ∙ ap (λ (m : List ℕ). storeHalf m (a .colour) (colour .colour-of .result)) (depth .store-half .ensures)
+          ∙ ap (storeHalf (storeHalf (a .ram .now) (a .depth) z) (a .colour)) (colour .colour-of .ensures .0));
     }
 
 pub pixel-spec : {M : Type 1} → statement M
 pixel-spec =
     tie.close
     (tie.spec
+    cast-z
     load-half-requires
     same-length
     returns

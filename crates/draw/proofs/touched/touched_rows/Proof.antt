@@ -18,7 +18,8 @@ first-touched-requires c κs =
 
 past-touched-requires : tie.Need-past-touched-requires
 past-touched-requires c κs =
-    let s = c .before .before .before .before .before .before .before in
+    let first = c .before .before .before in
+    let s = first .before .before .before .before in
     let h = six (s .args .v) (s .pre) in
     (still-in (s .args .v .y1) (h .in-y1), still-in (s .args .v .y2) (h .in-y2), still-in (s .args .v .y3) (h .in-y3))
 
@@ -27,11 +28,13 @@ clipped-requires c κs = search needs
 
 returns : tie.Need-returns
 returns c =
-    let s = c .before .before .before .before .before .before .before .before .before in
+    let past = c .before in
+    let first = past .before .before .before .before in
+    let s = first .before .before .before .before in
     let t = s .args .v in
     let h = six t (s .pre) in
-    let f = c .before .before .before .before .before .first-touched in
-    let p = c .before .past-touched in
+    let f = first .first-touched in
+    let p = past .past-touched in
     let e = c .clipped .ensures in
     let out : (x y : ℕ) → (y < f .result) ⊎ (p .result ≤ y) → insideAll t (sample x y) ≡ false =
     λ x y.

@@ -24,9 +24,12 @@ same-length c = search needs
 
 returns-2 : tie.Need-returns-2
 returns-2 c =
-    let a = c .before .before .before .before .before .before .before .args in
+    let test = c .before .before .before .before in
+    let number = test .before in
+    let a = number .before .before .args in
     let f = c .before .before .frame in
-    done-draws (a .ram .now) (a .s) (a .t) (sym (c .before .before .before .before .before .triangle-number .ensures) ∙ c .before .before .before .before .if1 .left) (f .result) (f .last .0) (f .ensures)
+    done-draws (a .ram .now) (a .s) (a .t) (sym (number .triangle-number .ensures) ∙ test .if1 .left)
+    (f .result) (f .last .0) (f .ensures)
 
 pub draw-spec : {M : Type 1} → statement M
 draw-spec =

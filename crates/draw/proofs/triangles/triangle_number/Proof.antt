@@ -5,7 +5,7 @@ use native.Mathlib.Omega.{arith}
 use borrow.Author.Tests.{not-true, not-false}
 use Rattle.rules.specs.Folds.{choose}
 use Rattle.rules.specs.Sizes.{width, height}
-use Rattle.rules.specs.Numbers.{verticesInRange, triangleTooLarge}
+use Rattle.rules.specs.Numbers.{verticesInRange, triangleTooLarge, triangleNumber}
 use Rattle.rules.proofs.Pixels.{sound-facts, width-le, height-le}
 use Rattle.rules.proofs.Refusals.{screen-number-passed}
 use Rattle.draw.proofs.Refused.{screen-first, then-triangle}
@@ -27,9 +27,12 @@ vertices-in-range-requires c κs = search needs
 
 returns-2 : tie.Need-returns-2
 returns-2 c =
-    let a = c .before .before .before .before .before .args in
-    let z = then-triangle (a .len) (a .s) (a .t) (sym (c .before .before .before .screen-number .ensures) ∙ c .before .before .if1 .left) in
-    sym (z ∙ ap (λ (v : Bool). choose (not v) 6 (choose (triangleTooLarge (a .t .vertices) (width (a .s .size)) (height (a .s .size))) 7 0)) (sym (c .before .vertices-in-range .ensures) ∙ not-true _ (c .if2 .taken)))
+    let number = c .before .before .before in
+    let a = number .before .before .args in
+    let z = then-triangle (a .len) (a .s) (a .t) (sym (number .screen-number .ensures) ∙ c .before .before .if1 .left) in
+    let v = sym (c .before .vertices-in-range .ensures) ∙ not-true _ (c .if2 .taken) in
+    let large = triangleTooLarge (a .t .vertices) (width (a .s .size)) (height (a .s .size)) in
+    sym (z ∙ ap (λ (v : Bool). choose (not v) 6 (choose large 7 0)) v)
 
 width-requires : tie.Need-width-requires
 width-requires c κs = search needs
@@ -39,35 +42,43 @@ height-requires c κs = search needs
 
 triangle-too-large-requires : tie.Need-triangle-too-large-requires
 triangle-too-large-requires c κs =
-    let k = sound-facts (screen-number-passed (sym (c .before .before .before .before .before .screen-number .ensures) ∙ c .before .before .before .before .if1 .left) .is-sound) in (
-      sym (c .before .before .before .vertices-in-range .ensures) ∙ not-false _ (c .before .before .if2 .left),
+    let test = c .before .before in
+    let ranged = test .before in
+    let sound = ranged .before in
+    let k = sound-facts (screen-number-passed (sym (sound .before .screen-number .ensures) ∙ sound .if1 .left) .is-sound) in (
+      sym (ranged .vertices-in-range .ensures) ∙ not-false _ (test .if2 .left),
       omega (arith, c .before .width .ensures, k .groups-low),
       omega (arith, c .before .width .ensures, width-le k),
       omega (arith, c .height .ensures, k .height-low),
       omega (arith, c .height .ensures, height-le k),
     )
 
+-- what is known once the edge values are judged
+judged : (c : tie.After-triangle-too-large) → (large : Bool) →
+    let sized = c .before .before in
+    let sound = sized .before .before .before in
+    let a = sound .before .before .before .args in
+    c .triangle-too-large .result ≡ large
+    → triangleNumber (a .len) (a .s) (a .t) ≡ choose large 7 0
+judged c large e =
+    let sized = c .before .before in
+    let test = sized .before in
+    let ranged = test .before in
+    let sound = ranged .before in
+    let a = sound .before .before .before .args in
+    let z = then-triangle (a .len) (a .s) (a .t) (sym (sound .before .screen-number .ensures) ∙ sound .if1 .left) in
+    let v : verticesInRange (a .t .vertices) ≡ true = sym (ranged .vertices-in-range .ensures) ∙ not-false _ (test .if2 .left) in
+    let w : triangleTooLarge (a .t .vertices) (width (a .s .size)) (height (a .s .size)) ≡ large =
+    ap₂ (triangleTooLarge (a .t .vertices)) (sym (sized .width .ensures)) (sym (c .before .height .ensures))
+    ∙ sym (c .triangle-too-large .ensures)
+    ∙ e in
+    z ∙ ap₂ (λ (p q : Bool). choose (not p) 6 (choose q 7 0)) v w
+
 returns-3 : tie.Need-returns-3
-returns-3 c =
-    let a = c .before .before .before .before .before .before .before .before .before .args in
-    let z = then-triangle (a .len) (a .s) (a .t) (sym (c .before .before .before .before .before .before .before .screen-number .ensures) ∙ c .before .before .before .before .before .before .if1 .left) in
-    let v : verticesInRange (a .t .vertices) ≡ true = sym (c .before .before .before .before .before .vertices-in-range .ensures) ∙ not-false _ (c .before .before .before .before .if2 .left) in
-    let w : triangleTooLarge (a .t .vertices) (width (a .s .size)) (height (a .s .size)) ≡ true =
-    ap₂ (triangleTooLarge (a .t .vertices)) (sym (c .before .before .before .width .ensures)) (sym (c .before .before .height .ensures))
-    ∙ sym (c .before .triangle-too-large .ensures)
-    ∙ c .if3 .taken in
-    sym (z ∙ ap₂ (λ (p q : Bool). choose (not p) 6 (choose q 7 0)) v w)
+returns-3 c = sym (judged (c .before) true (c .if3 .taken))
 
 returns-4 : tie.Need-returns-4
-returns-4 c =
-    let a = c .before .before .before .before .before .before .before .before .before .args in
-    let z = then-triangle (a .len) (a .s) (a .t) (sym (c .before .before .before .before .before .before .before .screen-number .ensures) ∙ c .before .before .before .before .before .before .if1 .left) in
-    let v : verticesInRange (a .t .vertices) ≡ true = sym (c .before .before .before .before .before .vertices-in-range .ensures) ∙ not-false _ (c .before .before .before .before .if2 .left) in
-    let w : triangleTooLarge (a .t .vertices) (width (a .s .size)) (height (a .s .size)) ≡ false =
-    ap₂ (triangleTooLarge (a .t .vertices)) (sym (c .before .before .before .width .ensures)) (sym (c .before .before .height .ensures))
-    ∙ sym (c .before .triangle-too-large .ensures)
-    ∙ c .if3 .left in
-    sym (z ∙ ap₂ (λ (p q : Bool). choose (not p) 6 (choose q 7 0)) v w)
+returns-4 c = sym (judged (c .before) false (c .if3 .left))
 
 pub triangle-number-spec : {M : Type 1} → statement M
 triangle-number-spec =
