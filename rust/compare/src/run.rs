@@ -6,7 +6,7 @@ use crate::machine;
 use crate::rng::Rng;
 use crate::shrink::shrink;
 use crate::subject::Subject;
-use merikohin::Ran;
+use merikohin::raw::Ran;
 
 pub struct Run {
     pub subject: Subject,

@@ -13,8 +13,7 @@ fn main() {
     scene::draw(&mut ram);
     let mut pixels = Vec::new();
     for y in 0..scene::HEIGHT {
-        let (number, row) = merikohin::row(&ram, scene::SCREEN, y);
-        assert_eq!(number, 0);
+        let row = merikohin::row(&ram, scene::SCREEN, y).expect("a row of the screen");
         pixels.extend(row.chunks(2).flat_map(|half| rgb(u16::from_be_bytes([half[0], half[1]]))));
     }
     let file = png::encode(scene::WIDTH, scene::HEIGHT, &pixels);

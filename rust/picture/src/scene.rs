@@ -7,7 +7,7 @@ pub const WIDTH: u32 = 320;
 pub const HEIGHT: u32 = 240;
 const AREA: u32 = WIDTH * HEIGHT * 2;
 pub const RAM: usize = 2 * AREA as usize;
-pub const SCREEN: Screen = Screen { colour: 0, depth: AREA, size: WIDTH / 16 * 512 + HEIGHT };
+pub const SCREEN: Screen = Screen::new(0, AREA, WIDTH, HEIGHT);
 
 /// A point in pixels.
 type Point = (f64, f64);
@@ -27,7 +27,7 @@ mod depth {
 }
 
 pub fn draw(ram: &mut [u8]) {
-    assert_eq!(merikohin::clear(ram, SCREEN, 0, 65535), 0);
+    merikohin::clear(ram, SCREEN, 0, 65535).expect("the screen fits");
     // Nearest first: what comes later is hidden by depth and not by order.
     waveform(ram);
     track(ram);
@@ -145,6 +145,6 @@ fn flat((red, green, blue): Colour) -> [Plane; 3] {
 fn triangle(ram: &mut [u8], corners: [Point; 3], depth: i32, [red, green, blue]: [Plane; 3]) {
     let [(x1, y1), (x2, y2), (x3, y3)] = corners.map(|(x, y)| ((8.0 * x).round() as i32, (8.0 * y).round() as i32));
     let depth = Plane { c: depth << 16, a: 0, b: 0 };
-    let drawn = merikohin::draw(ram, SCREEN, Triangle { x1, y1, x2, y2, x3, y3, depth, red, green, blue });
-    assert_eq!(drawn.number, 0);
+    let triangle = Triangle { vertices: [x1, y1, x2, y2, x3, y3].into(), depth, red, green, blue };
+    merikohin::draw(ram, SCREEN, triangle).expect("the vertices are in range");
 }

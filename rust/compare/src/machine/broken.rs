@@ -4,7 +4,8 @@
 use super::case::{plain_state, second_state};
 use super::words::fields;
 use crate::subject::Slip;
-use merikohin::{Ran, State};
+use merikohin::raw::Ran;
+use merikohin::State;
 use second::machine::{self, leaf_value, ASRI, CALL, DOT, LD, MULF, READ, SCRSET, ST, TREEIN, TREEVAL, WRITE};
 
 pub fn run(slip: Slip, program: &[u32], data: &mut [u32], ram: &mut [u8], lent: State, allowed: u64) -> Ran {
