@@ -1,7 +1,7 @@
 //! A case: a RAM, what it holds at first, and calls made on it one after the
 //! other. Every case has a text form that `--case` reads back.
 
-use crate::rng::Rng;
+use kit::rng::Rng;
 use merikohin::{Plane, Screen, Triangle};
 use std::fmt;
 

@@ -2,8 +2,8 @@
 
 use crate::case::{plain, second_triangle, Call, Case, Fill, NO_PLANE};
 use crate::random;
-use crate::rng::Rng;
 use crate::run::Run;
+use kit::rng::Rng;
 use merikohin::{Plane, Screen, Triangle};
 
 pub fn all(run: &mut Run) {

@@ -2,8 +2,8 @@
 
 use crate::case::{plain, Call, Case, Fill, Step};
 use crate::groups::{area, size};
-use crate::rng::Rng;
 use crate::run::Run;
+use kit::rng::Rng;
 use merikohin::{Plane, Screen, Triangle};
 use std::time::{Duration, Instant};
 

@@ -3,9 +3,9 @@
 use crate::case::Case;
 use crate::check::{check, Answer, Memories};
 use crate::machine;
-use crate::rng::Rng;
 use crate::shrink::shrink;
 use crate::subject::Subject;
+use kit::rng::Rng;
 use merikohin::raw::Ran;
 
 pub struct Run {

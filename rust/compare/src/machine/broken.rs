@@ -2,8 +2,8 @@
 //! and the slip is put into the steps it concerns.
 
 use super::case::{plain_state, second_state};
-use super::words::fields;
 use crate::subject::Slip;
+use kit::words::fields;
 use merikohin::raw::Ran;
 use merikohin::State;
 use second::machine::{self, leaf_value, ASRI, CALL, DOT, LD, MULF, READ, SCRSET, ST, TREEIN, TREEVAL, WRITE};

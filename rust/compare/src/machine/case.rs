@@ -3,7 +3,7 @@
 //! Every case has a text form that `--case` reads back.
 
 use crate::case::{numbers, second_screen, Fill};
-use crate::rng::Rng;
+use kit::rng::Rng;
 use merikohin::{Screen, State, Tree};
 use second::machine::{Leaf, DATA_WORDS};
 use std::collections::BTreeMap;

@@ -3,8 +3,8 @@
 //! every byte of RAM after every run.
 
 use super::case::{plain_state, plainly_answered, second_state, Case};
-use super::words;
 use crate::subject::Subject;
+use kit::words::Told;
 use merikohin::raw::Ran;
 use merikohin::State;
 use std::ops::Range;
@@ -151,7 +151,7 @@ pub fn check(subject: Subject, case: &Case, memories: &mut Memories) -> Checked 
         }
         if !text.is_empty() {
             if let Some(&word) = case.program.get(expected_state.place as usize) {
-                text += &format!("  the run's first word is {}\n", words::in_words(word));
+                text += &format!("  the run's first word is {word:08x}: {}\n", Told(word));
             }
             return Checked { answers, difference: Some(Difference { run, text }) };
         }

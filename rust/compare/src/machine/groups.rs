@@ -2,12 +2,12 @@
 
 use super::case::{mixed_word, second_state, with_regs, with_screen, with_tree, Case, DataFill, EXTREMES, FRESH};
 use super::parts::{any_word, instruction, leaf_values, mark, register, screen_in, state_in, tree_on, yes};
-use super::words::{idle, rri, rrr, to};
 use super::{long, samples, states};
 use crate::case::Fill;
 use crate::groups::{area, size, tight};
-use crate::rng::Rng;
 use crate::run::Run;
+use kit::rng::Rng;
+use kit::words::{idle, rri, rrr, to};
 use merikohin::raw::Ran;
 use merikohin::{Screen, State};
 use second::machine::*;

@@ -6,11 +6,11 @@
 
 use super::case::{mixed_word, second_state, Case, FRESH};
 use super::parts::{any_word, screen_in, tree_on};
-use super::words::{fields, Program};
 use crate::groups::{area, size};
 use crate::random::sound_screen;
-use crate::rng::Rng;
 use crate::run::Run;
+use kit::rng::Rng;
+use kit::words::{fields, Program};
 use merikohin::{Screen, State};
 use second::machine::*;
 use std::time::{Duration, Instant};
@@ -82,7 +82,7 @@ impl Maker<'_> {
     fn rrr(&mut self, opcode: u32, r1: u32, r2: u32, r3: u32) {
         // Bits that are not used are anything.
         let low = self.rng.next() as u32 & 0x7ff;
-        self.program.add(super::words::rrr(opcode, r1, r2, r3) | low);
+        self.program.add(kit::words::rrr(opcode, r1, r2, r3) | low);
         self.steps += 1;
     }
 

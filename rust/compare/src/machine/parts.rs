@@ -1,10 +1,10 @@
 //! Random registers, screens, trees, states and single instructions.
 
 use super::case::{mixed_word, with_screen, with_tree, EXTREMES, FRESH};
-use super::words::fields;
 use crate::groups::area;
 use crate::random::{random_size, sound_screen};
-use crate::rng::Rng;
+use kit::rng::Rng;
+use kit::words::fields;
 use merikohin::{Screen, State, Tree};
 use second::machine::{ASRI, DOT, JGEL, JMP, LD, LI, LSLI, READ, SCRSET, ST, TREESET, TREEVAL, WRITE};
 

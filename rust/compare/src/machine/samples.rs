@@ -3,12 +3,12 @@
 //! instruction, so that each ends with halt 12 past its last word.
 
 use super::case::{Case, FRESH};
-use super::words::{rri, Program};
 use crate::case::plain;
 use crate::groups::{area, size, tight, DEMONSTRATION};
 use crate::random;
-use crate::rng::Rng;
 use crate::run::Run;
+use kit::rng::Rng;
+use kit::words::{rri, Program};
 use merikohin::{Plane, Screen, Triangle};
 use second::machine::*;
 

@@ -3,10 +3,10 @@
 
 use super::case::{plain_state, second_state, Case, DataFill, NO_SCREEN, NO_TREE};
 use super::check::{check, Memories};
-use super::words::idle;
 use crate::case::Fill;
 use crate::shrink::smaller;
 use crate::subject::Subject;
+use kit::words::idle;
 use merikohin::{Screen, State};
 use std::time::{Duration, Instant};
 

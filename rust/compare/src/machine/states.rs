@@ -3,11 +3,11 @@
 
 use super::case::{second_state, with_regs, with_screen, with_tree, Case, FRESH, NO_TREE};
 use super::parts::{any_word, place_on, screen_in, state_in, tree_on, yes};
-use super::words::{rri, rrr, to};
 use crate::case::Fill;
 use crate::groups::{area, size, tight};
-use crate::rng::Rng;
 use crate::run::Run;
+use kit::rng::Rng;
+use kit::words::{rri, rrr, to};
 use merikohin::{Screen, State, Tree};
 use second::machine::{ADD, CLS, DATA_WORDS, JMP, ST, TREEPUT, WRITE};
 
