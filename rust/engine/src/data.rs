@@ -111,27 +111,24 @@ impl Tree {
     /// The depths that the leaves hold, if any.
     #[must_use]
     pub fn depths(&self) -> Option<[u16; 16]> {
-        (self.has_depth != 0).then(|| self.depth)
-    }
-
-    fn meaning(&self) -> (u32, u32, [bool; 16], [bool; 16], [u16; 16], Option<[u16; 16]>) {
-        let marks = |bytes: [u8; 16]| bytes.map(|byte| byte != 0);
-        (self.column, self.row, marks(self.inside), marks(self.outside), self.colour, self.depths())
+        (self.has_depth != 0).then_some(self.depth)
     }
 }
 
 impl PartialEq for Tree {
     fn eq(&self, other: &Tree) -> bool {
-        self.meaning() == other.meaning()
+        let marks = |bytes: [u8; 16]| bytes.map(|byte| byte != 0);
+        let meaning = |t: &Tree| (t.column, t.row, marks(t.inside), marks(t.outside), t.colour, t.depths());
+        meaning(self) == meaning(other)
     }
 }
 
 impl Eq for Tree {}
 
 /// A machine state. `registers[0]` is always 0. The flags, `has_screen` and
-/// `has_tree` are 0 for no and anything else for yes, and are answered as 0 or
-/// 1. The screen means nothing where there is none, nor does the tree; a run
-/// leaves in them what was there. Two states are equal where they mean the same;
+/// `has_tree` are answered as 0 or 1; given, 0 is no and anything else is yes.
+/// The screen means nothing where there is none, nor does the tree; a run leaves
+/// in them what was there. Two states are equal where they mean the same;
 /// [`State::same_fields`] looks at every field.
 ///
 /// A state is ill-formed exactly if `registers[0]` is not 0, the halt number is
@@ -164,13 +161,13 @@ impl State {
     /// The screen, if there is one.
     #[must_use]
     pub fn screen(&self) -> Option<Screen> {
-        (self.has_screen != 0).then(|| self.screen)
+        (self.has_screen != 0).then_some(self.screen)
     }
 
     /// The tree, if there is one.
     #[must_use]
     pub fn tree(&self) -> Option<Tree> {
-        (self.has_tree != 0).then(|| self.tree)
+        (self.has_tree != 0).then_some(self.tree)
     }
 
     /// Why it is halted, if it is.
