@@ -5,7 +5,7 @@ use crate::case::{second_screen, second_triangle};
 use crate::machine::broken;
 use crate::machine::case::plain_state;
 use merikohin::raw::{self, Drawn, Ran};
-use merikohin::{Screen, State, Triangle};
+use merikohin::{Refusal, Screen, State, Triangle};
 
 /// The slips a wrong variant can have: four of the drawing, the others of the
 /// machine.
@@ -111,7 +111,7 @@ impl Subject {
 
     pub fn clear(self, ram: &mut [u8], s: Screen, colour: u16, depth: u16) -> u32 {
         match self {
-            Subject::Engine => raw::clear(ram, s, colour, depth),
+            Subject::Engine => number_of(merikohin::clear(ram, s, colour, depth)),
             Subject::Broken(slip) => {
                 let number = second::clear(ram, second_screen(s), colour, depth);
                 if number != 0 {
@@ -131,7 +131,7 @@ impl Subject {
 
     pub fn row_check(self, ram: &[u8], s: Screen, row: u32) -> u32 {
         match self {
-            Subject::Engine => raw::row_check(ram, s, row),
+            Subject::Engine => number_of(merikohin::row_check(ram, s, row)),
             Subject::Broken(_) => second::row_check(ram, second_screen(s), row),
         }
     }
@@ -143,8 +143,7 @@ impl Subject {
                 let end = u128::from(located.start) + u128::from(located.length);
                 let part = if end <= ram.len() as u128 {
                     let answer = merikohin::row(ram, s, row);
-                    let number = answer.map_or_else(merikohin::Refusal::number, |_| 0);
-                    (number == located.number).then(|| part_of(ram, answer.unwrap_or(&ram[..0])))
+                    (number_of(answer) == located.number).then(|| part_of(ram, answer.unwrap_or(&ram[..0])))
                 } else {
                     None
                 };
@@ -171,6 +170,11 @@ impl Subject {
             Subject::Broken(slip) => broken::run(slip, program, data, ram, state, budget),
         }
     }
+}
+
+/// The number of an answer of the Rust layer.
+fn number_of<T>(answer: Result<T, Refusal>) -> u32 {
+    answer.map_or_else(Refusal::number, |_| 0)
 }
 
 fn refused(slip: Slip, ram: &mut [u8]) {

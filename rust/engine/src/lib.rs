@@ -108,6 +108,13 @@ pub fn draw(ram: &mut [u8], screen: Screen, triangle: Triangle) -> Result<Drawn,
 
 /// Whether a row can be read: what [`row`] refuses, this refuses with the same
 /// number.
+///
+/// ```
+/// use merikohin::{row_check, Refusal, Screen};
+/// let screen = Screen::new(0, 128, 16, 4);
+/// assert_eq!(row_check(&[0; 256], screen, 3), Ok(()));
+/// assert_eq!(row_check(&[0; 255], screen, 3), Err(Refusal::ScreenNotSound));
+/// ```
 pub fn row_check(ram: &[u8], screen: Screen, row: u32) -> Result<(), Refusal> {
     done(raw::row_check(ram, screen, row))
 }
@@ -129,6 +136,11 @@ pub fn row(ram: &[u8], screen: Screen, row: u32) -> Result<&[u8], Refusal> {
 
 /// A fresh state: place 0, registers 0, flags clear, no screen, no tree, halt
 /// number 0.
+///
+/// ```
+/// let state = merikohin::fresh();
+/// assert_eq!((state.place, state.screen(), state.tree(), state.halted()), (0, None, None, None));
+/// ```
 #[must_use]
 pub fn fresh() -> State {
     raw::fresh()

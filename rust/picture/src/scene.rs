@@ -1,6 +1,7 @@
 //! The scene: the field and the pitch in perspective, the stumps, the ball's
 //! track over them, and below the waveform of the sound.
 
+use kit::rng::Rng;
 use merikohin::{Plane, Screen, Triangle};
 
 pub const WIDTH: u32 = 320;
@@ -99,12 +100,11 @@ fn disc(ram: &mut [u8], (x, y): Point, radius: f64, depth: i32, colour: Colour) 
 /// passes the bat, a louder one where it meets the pad.
 fn waveform(ram: &mut [u8]) {
     shaded(ram, [(0.0, 168.0), (320.0, 168.0), (320.0, 240.0), (0.0, 240.0)], depth::FIELD, (1, 3, 3), (3, 8, 7));
-    let mut noise = 1_u32;
+    let mut noise = Rng::new(1);
     for column in 0..WIDTH {
-        noise = noise.wrapping_mul(1_664_525).wrapping_add(1_013_904_223);
         let x = f64::from(column);
         let swell = |at: f64, wide: f64| (-((x - at) / wide).powi(2)).exp();
-        let rough = f64::from(noise >> 24) / 255.0;
+        let rough = noise.between(0, 255) as f64 / 255.0;
         let loud = 1.0 + rough * (2.0 + 26.0 * swell(150.0, 5.0) + 31.0 * swell(214.0, 16.0));
         let colour = if swell(150.0, 5.0) > 0.05 { (31, 50, 4) } else { (8, 54, 14) };
         quad(

@@ -140,15 +140,19 @@ mod tests {
         for turn in 0..3000 {
             let step = if turn % 2 == 0 { 8 } else { 1 };
             let mut v = [0; 6].map(|_: i32| rng.between(-40, 300) as i32 / step * step);
-            if turn % 5 == 0 {
-                v[2] = v[0];
+            // Upright and level edges, and pixels in the first vertex's row, where such an edge is 0.
+            match turn % 5 {
+                0 => v[2] = v[0],
+                1 | 2 => v[3] = v[1],
+                _ => {}
             }
             let depth = flat(rng.between(0, 4) as i32);
             let triangle = Triangle { vertices: v.into(), depth, red: flat(3), ..Triangle::default() };
             let mut ram = vec![0; 2048];
             let (was, stored) = (rng.next() as u16, rng.between(0, 4) as u16);
             merikohin::clear(&mut ram, screen, was, stored).unwrap();
-            let (x, y) = (rng.between(0, 31) as u32, rng.between(0, 15) as u32);
+            let row = if turn % 2 == 0 { i64::from(v[1] / 8).clamp(0, 15) } else { rng.between(0, 15) };
+            let (x, y) = (rng.between(0, 31) as u32, row as u32);
             let answer = ask(screen, &ram, &triangle, x, y);
             assert_eq!(answer.is_some(), edges(&triangle, x, y).iter().all(|edge| edge.inside), "{triangle:?}");
             merikohin::draw(&mut ram, screen, triangle).unwrap();

@@ -53,58 +53,69 @@ fn fails(words: &[&str], status: i32, number: u32, ends: &str) {
     assert!(done.err.contains(sentence), "{}: {sentence}", done.err);
 }
 
-/// Every number of the command's own, once at least, with its status.
+/// Command lines that fail: with which status and number, and words of the message.
+const LINES: [(&str, i32, u32, &str); 21] = [
+    ("", 2, 100, "--help tells which"),
+    ("paint", 2, 100, "paint; merikohin --help tells more"),
+    ("--loud", 2, 100, "--loud; merikohin --help tells more"),
+    ("asm EMPTY", 2, 100, "usage: merikohin asm FILE.s -o FILE.bin"),
+    ("dis HALF --trace", 2, 100, "usage: merikohin dis FILE.bin"),
+    ("draw SCENE --trace", 2, 100, "usage: merikohin draw SCENE [-o OUT]"),
+    ("asm EMPTY -o x.bin --trace", 2, 100, "usage: merikohin asm"),
+    ("why SCENE 1 1 -o x.png", 2, 100, "usage: merikohin why"),
+    ("explain 6 -o x.png", 2, 100, "usage: merikohin explain"),
+    ("why SCENE 1", 2, 100, "usage: merikohin why SCENE X Y"),
+    ("why SCENE 1 y", 2, 100, "not a number: y"),
+    ("run EMPTY --steps", 2, 100, "--steps needs a value; usage: merikohin run"),
+    ("explain six", 2, 100, "not a number: six"),
+    ("run nowhere.s", 4, 101, "(nowhere.s)"),
+    ("asm EMPTY -o nowhere/x.bin", 4, 102, "(nowhere/x.bin)"),
+    ("draw SCENE -o x.gif", 2, 103, ".png, .ppm, .txt or .ram is wanted (x.gif)"),
+    ("run SCENE", 2, 103, ".s or .bin is wanted"),
+    ("run EMPTY -o nowhere.png", 3, 104, "(nowhere.png)"),
+    ("dis HALF", 3, 105, "5 bytes"),
+    ("why SCENE 16 0", 3, 121, "(16, 0) of 16 by 4"),
+    ("why SCENE 0 4", 3, 121, "(0, 4) of 16 by 4"),
+];
+
+/// Programs and scenes that are refused at their last line: the suffix, the text, the number, the value.
+const TEXTS: [(&str, &str, u32, &str); 11] = [
+    ("s", "9x: TREEPUT", 110, "9x"),
+    ("s", "\nJUMP 3", 111, "JUMP"),
+    ("s", "ADD R1, R2", 112, "ADD r1, r2, r3"),
+    ("s", "LI R1, 40000", 113, "40000 is outside -32768..32767"),
+    ("s", "JMP there", 114, "there"),
+    ("s", "a:\na: TREEPUT", 115, "a"),
+    ("s", "LI R1, 4 4", 116, "4 4"),
+    ("txt", "clear 0 0", 120, "clear"),
+    ("txt", "screen 16 4\nsquare 1", 110, "square"),
+    ("txt", "screen 16 4\nclear 65536 0", 113, "colour = 65536"),
+    ("txt", "screen 16 4\nclear red 0", 116, "colour = red"),
+];
+
+/// Every number of the command's own, with its status.
 #[test]
 fn its_own_numbers() {
-    let scene = written("own.txt", "screen 16 4\n");
-    let empty = written("empty.s", "");
-    let half = written("half.bin", [0; 5]);
-    let cases: Vec<(Vec<&str>, i32, u32, &str)> = vec![
-        (vec![], 2, 100, "--help tells which"),
-        (vec!["paint"], 2, 100, "paint; merikohin --help tells more"),
-        (vec!["--loud"], 2, 100, "--loud; merikohin --help tells more"),
-        (vec!["asm", &empty], 2, 100, "usage: merikohin asm FILE.s -o FILE.bin"),
-        (vec!["dis", &half, "--trace"], 2, 100, "usage: merikohin dis FILE.bin"),
-        (vec!["why", &scene, "1"], 2, 100, "usage: merikohin why SCENE X Y"),
-        (vec!["why", &scene, "1", "y"], 2, 100, "not a number: y"),
-        (vec!["run", &empty, "--steps"], 2, 100, "[-o OUT]"),
-        (vec!["explain", "six"], 2, 100, "not a number: six"),
-        (vec!["run", "nowhere.s"], 4, 101, "(nowhere.s)"),
-        (vec!["asm", &empty, "-o", "nowhere/x.bin"], 4, 102, "(nowhere/x.bin)"),
-        (vec!["draw", &scene, "-o", "x.gif"], 2, 103, ".png, .ppm, .txt or .ram is wanted (x.gif)"),
-        (vec!["run", &scene], 2, 103, ".s or .bin is wanted"),
-        (vec!["run", &empty, "-o", "nowhere.png"], 3, 104, "(nowhere.png)"),
-        (vec!["dis", &half], 3, 105, "5 bytes"),
-        (vec!["why", &scene, "16", "0"], 3, 121, "(16, 0) of 16 by 4"),
-        (vec!["why", &scene, "0", "4"], 3, 121, "(0, 4) of 16 by 4"),
+    let files = [
+        ("SCENE", written("own.txt", "screen 16 4\n")),
+        ("EMPTY", written("empty.s", "")),
+        ("HALF", written("half.bin", [0; 5])),
     ];
-    for (words, status, number, ends) in &cases {
-        let words: Vec<&str> = words.clone();
+    for (line, status, number, says) in LINES {
+        let named = |word| files.iter().find(|(name, _)| *name == word).map_or(word, |(_, path)| path.as_str());
+        let words: Vec<&str> = line.split_whitespace().map(named).collect();
         let done = merikohin(&words);
-        assert!(done.err.contains(ends), "{words:?}: {}", done.err);
-        fails(&words, *status, *number, "");
+        assert!(done.err.contains(says), "{words:?}: {}", done.err);
+        fails(&words, status, number, "");
     }
-    let texts: Vec<(&str, &str, u32, &str)> = vec![
-        ("s", "9x: TREEPUT", 110, "9x"),
-        ("s", "\nJUMP 3", 111, "JUMP"),
-        ("s", "ADD R1, R2", 112, "ADD r1, r2, r3"),
-        ("s", "LI R1, 40000", 113, "40000 is outside -32768..32767"),
-        ("s", "JMP there", 114, "there"),
-        ("s", "a:\na: TREEPUT", 115, "a"),
-        ("s", "LI R1, 4 4", 116, "4 4"),
-        ("txt", "clear 0 0", 120, "clear"),
-        ("txt", "screen 16 4\nsquare 1", 110, "square"),
-        ("txt", "screen 16 4\nclear 65536 0", 113, "colour = 65536"),
-        ("txt", "screen 16 4\nclear red 0", 116, "colour = red"),
-    ];
-    for (k, (suffix, text, number, value)) in texts.iter().enumerate() {
+    for (k, (suffix, text, number, value)) in TEXTS.iter().enumerate() {
         let path = written(&format!("own{k}.{suffix}"), text);
         let command = if *suffix == "s" { "run" } else { "draw" };
         fails(&[command, &path], 3, *number, &format!(": {value} ({path}, line {})", text.lines().count()));
     }
-    let provoked: Vec<u32> = cases.iter().map(|case| case.2).chain(texts.iter().map(|text| text.2)).collect();
+    let tried: Vec<u32> = LINES.iter().map(|line| line.2).chain(TEXTS.iter().map(|text| text.2)).collect();
     for number in (100..200).filter(|number| merikohin(&["explain", &number.to_string()]).status == 0) {
-        assert!(provoked.contains(&number), "{number} is not tried");
+        assert!(tried.contains(&number), "{number} is not tried");
     }
 }
 
@@ -169,6 +180,9 @@ fn steps() {
     assert!(traced.out.ends_with(&ran.out));
     assert_eq!(traced.out.lines().nth(1), Some("   1  48000000  JMP R0(0)                 to 0"));
     assert_eq!(merikohin(&["run", &endless, "--steps", "0"]).out, "0 steps, place 0, halt 0\n");
+    // Long enough for progress to be shown, and no terminal here.
+    let long = merikohin(&["run", &endless, "--steps", "5000000"]);
+    assert!(long.err.is_empty() && long.out.starts_with("5000000 steps, place 0, halt 0"), "{}{}", long.err, long.out);
 }
 
 #[test]
