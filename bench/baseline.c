@@ -8,7 +8,7 @@
 
 static int out_of_range(int32_t v)
 {
-    return v < -8192 || v > 8191;
+    return v < MERIKOHIN_VERTEX_LEAST || v > MERIKOHIN_VERTEX_MOST;
 }
 
 static int32_t least(int32_t a, int32_t b)
@@ -28,20 +28,20 @@ struct box {
 };
 
 /* The call's number; the box where it is 0. */
-static uint32_t look(size_t ram_len, merikohin_screen s, const merikohin_triangle *t, struct box *box)
+static uint32_t look(size_t ram_len, merikohin_screen s, const merikohin_vertices *v, struct box *box)
 {
-    if (ram_len > MOST_RAM)
+    if (ram_len > MERIKOHIN_RAM_MOST)
         return 3;
     if (!sound(ram_len, s))
         return 5;
-    if (out_of_range(t->x1) || out_of_range(t->y1) || out_of_range(t->x2) || out_of_range(t->y2) ||
-        out_of_range(t->x3) || out_of_range(t->y3))
+    if (out_of_range(v->x1) || out_of_range(v->y1) || out_of_range(v->x2) || out_of_range(v->y2) ||
+        out_of_range(v->x3) || out_of_range(v->y3))
         return 6;
-    box->width = (int32_t)(s.size / 512) * 16;
-    box->left = most(0, (least(t->x1, least(t->x2, t->x3)) + 7) >> 3);
-    box->right = least(box->width - 1, most(t->x1, most(t->x2, t->x3)) >> 3);
-    box->top = most(0, (least(t->y1, least(t->y2, t->y3)) + 7) >> 3);
-    box->bottom = least((int32_t)(s.size % 512) - 1, most(t->y1, most(t->y2, t->y3)) >> 3);
+    box->width = (int32_t)(s.size_number / 512) * 16;
+    box->left = most(0, (least(v->x1, least(v->x2, v->x3)) + 7) >> 3);
+    box->right = least(box->width - 1, most(v->x1, most(v->x2, v->x3)) >> 3);
+    box->top = most(0, (least(v->y1, least(v->y2, v->y3)) + 7) >> 3);
+    box->bottom = least((int32_t)(s.size_number % 512) - 1, most(v->y1, most(v->y2, v->y3)) >> 3);
     return 0;
 }
 
@@ -75,16 +75,17 @@ static int inside(int32_t x1, int32_t y1, int32_t x2, int32_t y2, int32_t px, in
 
 merikohin_drawn NAME(per_pixel)(uint8_t *ram, size_t ram_len, merikohin_screen s, merikohin_triangle t)
 {
+    const merikohin_vertices *v = &t.vertices;
     struct box box;
-    merikohin_drawn answer = {look(ram_len, s, &t, &box), 0, 0};
+    merikohin_drawn answer = {look(ram_len, s, v, &box), 0, 0};
     if (answer.number != 0)
         return answer;
     for (int32_t y = box.top; y <= box.bottom; y++) {
-        uint8_t *colours = ram + s.colour + (size_t)y * (size_t)box.width * 2;
-        uint8_t *depths = ram + s.depth + (size_t)y * (size_t)box.width * 2;
+        uint8_t *colours = ram + s.colour_start + (size_t)y * (size_t)box.width * 2;
+        uint8_t *depths = ram + s.depth_start + (size_t)y * (size_t)box.width * 2;
         for (int32_t x = box.left; x <= box.right; x++) {
-            if (inside(t.x1, t.y1, t.x2, t.y2, 8 * x, 8 * y) && inside(t.x2, t.y2, t.x3, t.y3, 8 * x, 8 * y) &&
-                inside(t.x3, t.y3, t.x1, t.y1, 8 * x, 8 * y))
+            if (inside(v->x1, v->y1, v->x2, v->y2, 8 * x, 8 * y) && inside(v->x2, v->y2, v->x3, v->y3, 8 * x, 8 * y) &&
+                inside(v->x3, v->y3, v->x1, v->y1, 8 * x, 8 * y))
                 cover(&t, colours, depths, x, y, &answer);
         }
     }
@@ -110,17 +111,18 @@ static struct edge edge_at(int32_t x1, int32_t y1, int32_t x2, int32_t y2, int32
 
 merikohin_drawn NAME(stepped)(uint8_t *ram, size_t ram_len, merikohin_screen s, merikohin_triangle t)
 {
+    const merikohin_vertices *v = &t.vertices;
     struct box box;
-    merikohin_drawn answer = {look(ram_len, s, &t, &box), 0, 0};
+    merikohin_drawn answer = {look(ram_len, s, v, &box), 0, 0};
     if (answer.number != 0)
         return answer;
-    struct edge a = edge_at(t.x1, t.y1, t.x2, t.y2, 8 * box.left, 8 * box.top);
-    struct edge b = edge_at(t.x2, t.y2, t.x3, t.y3, 8 * box.left, 8 * box.top);
-    struct edge c = edge_at(t.x3, t.y3, t.x1, t.y1, 8 * box.left, 8 * box.top);
+    struct edge a = edge_at(v->x1, v->y1, v->x2, v->y2, 8 * box.left, 8 * box.top);
+    struct edge b = edge_at(v->x2, v->y2, v->x3, v->y3, 8 * box.left, 8 * box.top);
+    struct edge c = edge_at(v->x3, v->y3, v->x1, v->y1, 8 * box.left, 8 * box.top);
     for (int32_t y = box.top; y <= box.bottom; y++) {
         int32_t ea = a.value, eb = b.value, ec = c.value;
-        uint8_t *colours = ram + s.colour + (size_t)y * (size_t)box.width * 2;
-        uint8_t *depths = ram + s.depth + (size_t)y * (size_t)box.width * 2;
+        uint8_t *colours = ram + s.colour_start + (size_t)y * (size_t)box.width * 2;
+        uint8_t *depths = ram + s.depth_start + (size_t)y * (size_t)box.width * 2;
         for (int32_t x = box.left; x <= box.right; x++) {
             if (ea >= 0 && eb >= 0 && ec >= 0)
                 cover(&t, colours, depths, x, y, &answer);
@@ -137,7 +139,7 @@ merikohin_drawn NAME(stepped)(uint8_t *ram, size_t ram_len, merikohin_screen s, 
 
 uint32_t NAME(clear)(uint8_t *ram, size_t ram_len, merikohin_screen s, uint16_t colour, uint16_t depth)
 {
-    if (ram_len > MOST_RAM)
+    if (ram_len > MERIKOHIN_RAM_MOST)
         return 3;
     if (!sound(ram_len, s))
         return 5;

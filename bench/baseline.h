@@ -15,19 +15,17 @@
 #define JOIN(a, b) JOIN2(a, b)
 #define NAME(x) JOIN(PREFIX, x)
 
-enum { MOST_RAM = 4194304 };
-
 static inline int sound(size_t ram_len, merikohin_screen s)
 {
-    uint32_t groups = s.size / 512, height = s.size % 512;
+    uint32_t groups = s.size_number / 512, height = s.size_number % 512;
     if (groups < 1 || groups > 40 || height < 1 || height > 480)
         return 0;
     uint64_t bytes = (uint64_t)groups * 32 * height;
-    if (s.colour % 2 != 0 || s.depth % 2 != 0)
+    if (s.colour_start % 2 != 0 || s.depth_start % 2 != 0)
         return 0;
-    if (s.colour + bytes > ram_len || s.depth + bytes > ram_len)
+    if (s.colour_start + bytes > ram_len || s.depth_start + bytes > ram_len)
         return 0;
-    return s.colour >= s.depth + bytes || s.depth >= s.colour + bytes;
+    return s.colour_start >= s.depth_start + bytes || s.depth_start >= s.colour_start + bytes;
 }
 
 static inline void put_half(uint8_t *at, uint16_t value)
@@ -51,9 +49,9 @@ static inline void fill_area(uint8_t *at, size_t pixels, uint16_t value)
 
 static inline void fill_screen(uint8_t *ram, merikohin_screen s, uint16_t colour, uint16_t depth)
 {
-    size_t pixels = (size_t)(s.size / 512) * 16 * (s.size % 512);
-    fill_area(ram + s.colour, pixels, colour);
-    fill_area(ram + s.depth, pixels, depth);
+    size_t pixels = (size_t)(s.size_number / 512) * 16 * (s.size_number % 512);
+    fill_area(ram + s.colour_start, pixels, colour);
+    fill_area(ram + s.depth_start, pixels, depth);
 }
 
 #endif

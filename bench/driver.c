@@ -66,25 +66,24 @@ static size_t clears;
 
 static void set_screen(uint32_t width, uint32_t height)
 {
-    screen.colour = 0;
-    screen.depth = width * height * 2;
-    screen.size = width / 16 * 512 + height;
-    ram_len = (size_t)screen.depth * 2;
+    screen.colour_start = 0;
+    screen.depth_start = width * height * 2;
+    screen.size_number = MERIKOHIN_SIZE(width, height);
+    ram_len = (size_t)screen.depth_start * 2;
 }
 
-static int64_t twice_area(const merikohin_triangle *t)
+static int64_t twice_area(const merikohin_vertices *v)
 {
-    return (int64_t)(t->x2 - t->x1) * (t->y3 - t->y1) - (int64_t)(t->x3 - t->x1) * (t->y2 - t->y1);
+    return (int64_t)(v->x2 - v->x1) * (v->y3 - v->y1) - (int64_t)(v->x3 - v->x1) * (v->y2 - v->y1);
 }
 
 /* Vertices in the order that covers pixels; planes with a depth somewhere in
  * the middle and gentle slopes. */
 static void add(int32_t x1, int32_t y1, int32_t x2, int32_t y2, int32_t x3, int32_t y3)
 {
-    merikohin_triangle t;
-    t.x1 = x1, t.y1 = y1, t.x2 = x2, t.y2 = y2, t.x3 = x3, t.y3 = y3;
-    if (twice_area(&t) < 0)
-        t.x2 = x3, t.y2 = y3, t.x3 = x2, t.y3 = y2;
+    merikohin_triangle t = {.vertices = {x1, y1, x2, y2, x3, y3}};
+    if (twice_area(&t.vertices) < 0)
+        t.vertices = (merikohin_vertices){x1, y1, x3, y3, x2, y2};
     merikohin_plane *planes[4] = {&t.depth, &t.red, &t.green, &t.blue};
     for (int k = 0; k < 4; k++) {
         planes[k]->c = between(0x10000000, 0x60000000);
@@ -103,18 +102,18 @@ static void add_stout(int32_t pixels)
     int32_t reach = (int32_t)(8 * sqrt(4.0 * pixels));
     for (;;) {
         int32_t x = between(0, 8 * (WIDTH - 1) - reach), y = between(0, 8 * (HEIGHT - 1) - reach);
-        merikohin_triangle t;
-        t.x1 = x + between(0, reach), t.y1 = y + between(0, reach);
-        t.x2 = x + between(0, reach), t.y2 = y + between(0, reach);
-        t.x3 = x + between(0, reach), t.y3 = y + between(0, reach);
-        double area = (double)llabs(twice_area(&t)) / 128;
-        int32_t w = abs(t.x1 - t.x2), h = abs(t.y1 - t.y2);
-        w = w > abs(t.x2 - t.x3) ? w : abs(t.x2 - t.x3);
-        w = w > abs(t.x3 - t.x1) ? w : abs(t.x3 - t.x1);
-        h = h > abs(t.y2 - t.y3) ? h : abs(t.y2 - t.y3);
-        h = h > abs(t.y3 - t.y1) ? h : abs(t.y3 - t.y1);
+        merikohin_vertices v;
+        v.x1 = x + between(0, reach), v.y1 = y + between(0, reach);
+        v.x2 = x + between(0, reach), v.y2 = y + between(0, reach);
+        v.x3 = x + between(0, reach), v.y3 = y + between(0, reach);
+        double area = (double)llabs(twice_area(&v)) / 128;
+        int32_t w = abs(v.x1 - v.x2), h = abs(v.y1 - v.y2);
+        w = w > abs(v.x2 - v.x3) ? w : abs(v.x2 - v.x3);
+        w = w > abs(v.x3 - v.x1) ? w : abs(v.x3 - v.x1);
+        h = h > abs(v.y2 - v.y3) ? h : abs(v.y2 - v.y3);
+        h = h > abs(v.y3 - v.y1) ? h : abs(v.y3 - v.y1);
         if (area >= 0.95 * pixels && area <= 1.05 * pixels && (double)w * h / 64 <= 4 * area) {
-            add(t.x1, t.y1, t.x2, t.y2, t.x3, t.y3);
+            add(v.x1, v.y1, v.x2, v.y2, v.x3, v.y3);
             return;
         }
     }

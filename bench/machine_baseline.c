@@ -14,7 +14,7 @@ struct lent {
 
 static int tree_fits(merikohin_screen s, uint32_t column, uint32_t row)
 {
-    return column % 16 == 0 && column < s.size / 512 * 16 && row < s.size % 512;
+    return column % 16 == 0 && column < s.size_number / 512 * 16 && row < s.size_number % 512;
 }
 
 static uint32_t mulf(uint32_t a, uint32_t b)
@@ -54,7 +54,7 @@ static void write_words(uint8_t *to, const uint32_t *from)
 /* Where the tree's first leaf lies in an area that starts here. */
 static uint8_t *leaves_at(uint8_t *ram, uint32_t start, const merikohin_state *s)
 {
-    return ram + start + 2 * ((size_t)s->tree.row * (s->screen.size / 512 * 16) + s->tree.column);
+    return ram + start + 2 * ((size_t)s->tree.row * (s->screen.size_number / 512 * 16) + s->tree.column);
 }
 
 static void tree_set(merikohin_tree *t, uint32_t column, uint32_t row, uint32_t mask)
@@ -79,7 +79,7 @@ static void tree_in(merikohin_tree *t, uint32_t value, uint32_t right)
 
 static void tree_depth(merikohin_tree *t, const uint8_t *stored, uint32_t value, uint32_t right)
 {
-    t->held = 1;
+    t->has_depth = 1;
     for (uint32_t k = 0; k < 16; k++) {
         uint16_t depth = (uint16_t)((value + k * right) >> 16);
         int hidden = depth > get_half(stored + 2 * k);
@@ -103,7 +103,7 @@ static void tree_put(const merikohin_tree *t, uint8_t *colours, uint8_t *depths)
     for (int k = 0; k < 16; k++) {
         if (t->inside[k] || !t->outside[k]) {
             put_half(colours + 2 * k, t->colour[k]);
-            if (t->held)
+            if (t->has_depth)
                 put_half(depths + 2 * k, t->depth[k]);
         }
     }
@@ -115,7 +115,7 @@ static uint32_t step(const struct lent *m, merikohin_state *s)
     if (s->place >= m->program_len)
         return 12;
     const uint32_t word = m->program[s->place];
-    uint32_t *const regs = s->regs;
+    uint32_t *const regs = s->registers;
 #define R1 regs[word >> 21 & 31]
 #define R2 regs[word >> 16 & 31]
 #define R3 regs[word >> 11 & 31]
@@ -193,29 +193,29 @@ static uint32_t step(const struct lent *m, merikohin_state *s)
         merikohin_screen screen = {R1, R2, IMM};
         if (!sound(m->ram_len, screen))
             return 17;
-        s->shown = 1;
+        s->has_screen = 1;
         s->screen = screen;
-        s->planted = 0;
+        s->has_tree = 0;
         s->place++;
         return 0;
     }
     case CLS:
-        if (!s->shown)
+        if (!s->has_screen)
             return 17;
         fill_screen(m->ram, s->screen, (uint16_t)R1, (uint16_t)R2);
         s->place++;
         return 0;
     case TREESET:
-        if (!s->shown)
+        if (!s->has_screen)
             return 17;
         if (!tree_fits(s->screen, R1, R2))
             return 14;
-        s->planted = 1;
+        s->has_tree = 1;
         tree_set(&s->tree, R1, R2, R3);
         s->place++;
         return 0;
     case TREEIN:
-        if (!s->planted)
+        if (!s->has_tree)
             return 14;
         tree_in(&s->tree, R1, R2);
         R1 += 16 * R2;
@@ -223,10 +223,10 @@ static uint32_t step(const struct lent *m, merikohin_state *s)
         s->place++;
         return 0;
     case TREEVAL:
-        if (!s->planted || IMM > 3)
+        if (!s->has_tree || IMM > 3)
             return 14;
         switch (IMM) {
-        case 0: tree_depth(&s->tree, leaves_at(m->ram, s->screen.depth, s), R1, R2); break;
+        case 0: tree_depth(&s->tree, leaves_at(m->ram, s->screen.depth_start, s), R1, R2); break;
         case 1: tree_colour(&s->tree, 31 << 11, 11, R1, R2); break;
         case 2: tree_colour(&s->tree, 63 << 5, 5, R1, R2); break;
         case 3: tree_colour(&s->tree, 31, 0, R1, R2); break;
@@ -236,9 +236,9 @@ static uint32_t step(const struct lent *m, merikohin_state *s)
         s->place++;
         return 0;
     case TREEPUT:
-        if (!s->planted)
+        if (!s->has_tree)
             return 14;
-        tree_put(&s->tree, leaves_at(m->ram, s->screen.colour, s), leaves_at(m->ram, s->screen.depth, s));
+        tree_put(&s->tree, leaves_at(m->ram, s->screen.colour_start, s), leaves_at(m->ram, s->screen.depth_start, s));
         s->place++;
         return 0;
     default:
@@ -257,11 +257,11 @@ jump:
 
 static int ill_formed(size_t ram_len, const merikohin_state *s)
 {
-    if (s->regs[0] != 0 || (s->halt != 0 && (s->halt < 11 || s->halt > 17)))
+    if (s->registers[0] != 0 || (s->halt != 0 && (s->halt < 11 || s->halt > 17)))
         return 1;
-    if (s->shown && !sound(ram_len, s->screen))
+    if (s->has_screen && !sound(ram_len, s->screen))
         return 1;
-    return s->planted && (!s->shown || !tree_fits(s->screen, s->tree.column, s->tree.row));
+    return s->has_tree && (!s->has_screen || !tree_fits(s->screen, s->tree.column, s->tree.row));
 }
 
 /* Flags and marks as 0 or 1. */
@@ -269,9 +269,9 @@ static void tidy(merikohin_state *s)
 {
     s->negative = s->negative != 0;
     s->zero = s->zero != 0;
-    s->shown = s->shown != 0;
-    s->planted = s->planted != 0;
-    s->tree.held = s->tree.held != 0;
+    s->has_screen = s->has_screen != 0;
+    s->has_tree = s->has_tree != 0;
+    s->tree.has_depth = s->tree.has_depth != 0;
     for (int k = 0; k < 16; k++) {
         s->tree.inside[k] = s->tree.inside[k] != 0;
         s->tree.outside[k] = s->tree.outside[k] != 0;
@@ -286,7 +286,7 @@ merikohin_ran NAME(run)(const uint32_t *program, size_t program_len, uint32_t *m
         answer.number = 1;
     else if (memory_len != 1024)
         answer.number = 2;
-    else if (ram_len > MOST_RAM)
+    else if (ram_len > MERIKOHIN_RAM_MOST)
         answer.number = 3;
     else if (ill_formed(ram_len, &state))
         answer.number = 4;

@@ -63,9 +63,9 @@ static void jump(enum opcode op, size_t place)
 /* Over and over, 512 turns of: read a word, scale it, sum up, store the sum. */
 static void arithmetic(void)
 {
-    start.regs[2] = 512;
-    start.regs[3] = 0xc000;
-    start.regs[7] = 1;
+    start.registers[2] = 512;
+    start.registers[3] = 0xc000;
+    start.registers[7] = 1;
     rri(LI, 1, 0, 0);
     size_t turn = program_len;
     rri(LD, 4, 1, 0);
@@ -81,8 +81,8 @@ static void arithmetic(void)
 /* Over and over, 63 matrices of four rows times one vector. */
 static void dot(void)
 {
-    start.regs[2] = 1020;
-    start.regs[3] = 1008;
+    start.registers[2] = 1020;
+    start.registers[3] = 1008;
     rri(LI, 1, 0, 0);
     size_t turn = program_len;
     for (uint32_t k = 0; k < 4; k++) {
@@ -102,23 +102,23 @@ static void raster(void)
 {
     enum { X = 1, Y, MAX_X, MAX_Y, MASK, TMP, RIGHT = 7, LINE = 14, VALUE = 21 };
     const int64_t corners[3][2] = {{0, 0}, {8 * WIDTH, 0}, {0, 8 * HEIGHT}};
-    start.regs[MAX_X] = WIDTH - 1;
-    start.regs[MAX_Y] = HEIGHT - 1;
-    start.regs[MASK] = 0xffff;
+    start.registers[MAX_X] = WIDTH - 1;
+    start.registers[MAX_Y] = HEIGHT - 1;
+    start.registers[MASK] = 0xffff;
     for (int k = 0; k < 3; k++) {
         const int64_t *from = corners[k], *to = corners[(k + 1) % 3];
         int64_t dx = to[0] - from[0], dy = to[1] - from[1];
         int zero_inside = dy < 0 || (dy == 0 && dx > 0);
-        start.regs[LINE + k] = (uint32_t)(from[0] * dy - from[1] * dx - (zero_inside ? 0 : 1));
-        start.regs[RIGHT + k] = (uint32_t)(-8 * dy);
+        start.registers[LINE + k] = (uint32_t)(from[0] * dy - from[1] * dx - (zero_inside ? 0 : 1));
+        start.registers[RIGHT + k] = (uint32_t)(-8 * dy);
         first_memory[k] = (uint32_t)(8 * dx);
     }
     for (int k = 3; k < 7; k++) {
-        start.regs[LINE + k] = (uint32_t)between(0x10000000, 0x60000000);
-        start.regs[RIGHT + k] = (uint32_t)between(-0x8000, 0x8000);
+        start.registers[LINE + k] = (uint32_t)between(0x10000000, 0x60000000);
+        start.registers[RIGHT + k] = (uint32_t)between(-0x8000, 0x8000);
         first_memory[k] = (uint32_t)between(-0x8000, 0x8000);
     }
-    start.shown = 1;
+    start.has_screen = 1;
     start.screen = (merikohin_screen){0, AREA, WIDTH / 16 * 512 + HEIGHT};
     ram_len = 2 * AREA;
 
@@ -148,9 +148,9 @@ static void raster(void)
 /* All colours and depths of one screen to another, 64 bytes at a time. */
 static void moves(void)
 {
-    start.regs[3] = 2 * AREA;
-    start.regs[4] = 64;
-    start.regs[5] = 2 * AREA;
+    start.registers[3] = 2 * AREA;
+    start.registers[4] = 64;
+    start.registers[5] = 2 * AREA;
     ram_len = 4 * AREA;
     rrr(READ, 1, 2, 0);
     rrr(WRITE, 1, 3, 0);
@@ -191,7 +191,7 @@ void prepare(const char *name)
         exit(2);
     }
     first_ram = room(ram_len);
-    if (start.shown) {
+    if (start.has_screen) {
         memset(first_ram, 0, AREA);
         memset(first_ram + AREA, 255, AREA);
     } else {
@@ -225,11 +225,11 @@ void measured(int subject)
 /* A screen, a tree or depths that a state does not have may hold anything. */
 static merikohin_state meaning(merikohin_state s)
 {
-    if (!s.shown)
+    if (!s.has_screen)
         memset(&s.screen, 0, sizeof s.screen);
-    if (!s.planted)
+    if (!s.has_tree)
         memset(&s.tree, 0, sizeof s.tree);
-    if (!s.tree.held)
+    if (!s.tree.has_depth)
         memset(s.tree.depth, 0, sizeof s.tree.depth);
     return s;
 }

@@ -1,7 +1,7 @@
 //! A case: a RAM, what it holds at first, and calls made on it one after the
 //! other. Every case has a text form that `--case` reads back.
 
-use crate::rng::Rng;
+use kit::rng::Rng;
 use merikohin::{Plane, Screen, Triangle};
 use std::fmt;
 
@@ -64,14 +64,6 @@ impl Case {
     }
 }
 
-pub fn vertices(t: &Triangle) -> [i32; 6] {
-    [t.x1, t.y1, t.x2, t.y2, t.x3, t.y3]
-}
-
-pub fn set_vertices(t: &mut Triangle, v: [i32; 6]) {
-    [t.x1, t.y1, t.x2, t.y2, t.x3, t.y3] = v;
-}
-
 pub fn planes(t: &Triangle) -> [Plane; 4] {
     [t.depth, t.red, t.green, t.blue]
 }
@@ -84,18 +76,7 @@ pub const NO_PLANE: Plane = Plane { c: 0, a: 0, b: 0 };
 
 /// A triangle with all planes zero: depth 0, colour 0.
 pub fn plain(v: [i32; 6]) -> Triangle {
-    Triangle {
-        x1: v[0],
-        y1: v[1],
-        x2: v[2],
-        y2: v[3],
-        x3: v[4],
-        y3: v[5],
-        depth: NO_PLANE,
-        red: NO_PLANE,
-        green: NO_PLANE,
-        blue: NO_PLANE,
-    }
+    Triangle { vertices: v.into(), ..Triangle::default() }
 }
 
 // ---------------------------------------------------------------------------
@@ -103,16 +84,16 @@ pub fn plain(v: [i32; 6]) -> Triangle {
 // ---------------------------------------------------------------------------
 
 pub fn second_screen(s: Screen) -> second::Screen {
-    second::Screen { colour_start: s.colour, depth_start: s.depth, size_number: s.size }
+    second::Screen { colour_start: s.colour_start, depth_start: s.depth_start, size_number: s.size_number }
 }
 
 pub fn second_triangle(t: &Triangle) -> second::Triangle {
     let plane = |p: Plane| second::Plane { c: p.c, a: p.a, b: p.b };
     second::Triangle {
         vertices: [
-            second::Vertex { x: t.x1, y: t.y1 },
-            second::Vertex { x: t.x2, y: t.y2 },
-            second::Vertex { x: t.x3, y: t.y3 },
+            second::Vertex { x: t.vertices.x1, y: t.vertices.y1 },
+            second::Vertex { x: t.vertices.x2, y: t.vertices.y2 },
+            second::Vertex { x: t.vertices.x3, y: t.vertices.y3 },
         ],
         depth: plane(t.depth),
         red: plane(t.red),
@@ -137,13 +118,13 @@ impl fmt::Display for Case {
         }
         for step in &self.steps {
             let s = step.screen;
-            write!(f, "; screen={},{},{} ", s.colour, s.depth, s.size)?;
+            write!(f, "; screen={},{},{} ", s.colour_start, s.depth_start, s.size_number)?;
             match step.call {
                 Call::Clear { colour, depth } => write!(f, "clear={colour},{depth}")?,
                 Call::RowCheck { row } => write!(f, "check={row}")?,
                 Call::Row { row } => write!(f, "row={row}")?,
                 Call::Draw(t) => {
-                    let [a, b, c, d, e, g] = vertices(&t);
+                    let [a, b, c, d, e, g] = t.vertices.numbers();
                     write!(f, "draw={a},{b},{c},{d},{e},{g}")?;
                     for (name, p) in ["depth", "red", "green", "blue"].iter().zip(planes(&t)) {
                         if p != NO_PLANE {
@@ -197,7 +178,7 @@ impl std::str::FromStr for Case {
                     (0, "fill") => case.fill = value.parse()?,
                     (1.., "screen") => {
                         let n = numbers::<u32>(value, 3)?;
-                        screen = Some(Screen { colour: n[0], depth: n[1], size: n[2] });
+                        screen = Some(Screen { colour_start: n[0], depth_start: n[1], size_number: n[2] });
                     }
                     (1.., "clear") => {
                         let n = numbers::<u16>(value, 2)?;

@@ -143,7 +143,7 @@ fn bytes_in_words(name: &str, step: &Step, subject: &[u8], second: &[u8]) -> Str
     let mut what = "outside the screen";
     let mut pixel = String::new();
     if second::sound(second.len(), screen) {
-        for (area, start) in [("colour", step.screen.colour), ("depth", step.screen.depth)] {
+        for (area, start) in [("colour", step.screen.colour_start), ("depth", step.screen.depth_start)] {
             let into = at as i128 - i128::from(start);
             if into >= 0 && into < screen.area_bytes() {
                 what = area;

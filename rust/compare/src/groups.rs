@@ -1,9 +1,9 @@
 //! The fixed groups: both sides of every edge document 01 names.
 
-use crate::case::{plain, second_triangle, set_vertices, vertices, Call, Case, Fill, NO_PLANE};
+use crate::case::{plain, second_triangle, Call, Case, Fill, NO_PLANE};
 use crate::random;
-use crate::rng::Rng;
 use crate::run::Run;
+use kit::rng::Rng;
 use merikohin::{Plane, Screen, Triangle};
 
 pub fn all(run: &mut Run) {
@@ -47,7 +47,7 @@ pub fn area(size: u32) -> u32 {
 /// Colour area first, depth area right after it, and RAM for just both.
 pub fn tight(size: u32) -> (Screen, usize) {
     let bytes = area(size);
-    (Screen { colour: 0, depth: bytes, size }, 2 * bytes as usize)
+    (Screen { colour_start: 0, depth_start: bytes, size_number: size }, 2 * bytes as usize)
 }
 
 fn flat(value: i32) -> Plane {
@@ -69,7 +69,7 @@ fn covers_all(rng: &mut Rng) -> Triangle {
 /// Each kind of call on one RAM and screen, each from random bytes; all are to
 /// answer `number`.
 fn each_call(run: &mut Run, rng: &mut Rng, ram: usize, screen: Screen, number: u32) {
-    let height = screen.size % 512;
+    let height = screen.size_number % 512;
     let row = (rng.next() % u64::from(height.max(1))) as u32;
     let clear = Call::Clear { colour: rng.next() as u16, depth: rng.next() as u16 };
     for call in [clear, Call::Draw(covers_all(rng)), Call::RowCheck { row }, Call::Row { row }] {
@@ -206,7 +206,7 @@ fn vertex_numbers(run: &mut Run, rng: &mut Rng) {
                 let mut v = base;
                 v[k] = value;
                 let mut t = covers_all(rng);
-                set_vertices(&mut t, v);
+                t.vertices = v.into();
                 run.case_wants(&Case::one(ram, Fill::Random(rng.next()), screen, Call::Draw(t)), number, None, None);
             }
         }
@@ -253,9 +253,9 @@ fn size_numbers(run: &mut Run, rng: &mut Rng) {
     }
     for s in sizes {
         let fits = (1..=40).contains(&(s / 512)) && (1..=480).contains(&(s % 512));
-        let screen = Screen { colour: 0, depth, size: s };
+        let screen = Screen { colour_start: 0, depth_start: depth, size_number: s };
         each_call(run, rng, ram, screen, if fits { 0 } else { 5 });
-        let screen = Screen { colour: 0, depth: 64, size: s };
+        let screen = Screen { colour_start: 0, depth_start: 64, size_number: s };
         let fits = fits && area(s) <= 64;
         each_call(run, rng, 128, screen, if fits { 0 } else { 5 });
     }
@@ -320,7 +320,7 @@ fn rows(run: &mut Run, rng: &mut Rng) {
             u32::MAX,
         ];
         for (colour, depth) in [(0, bytes), (bytes, 0), (2, bytes + 4), (bytes + 6, 0)] {
-            let screen = Screen { colour, depth, size: s };
+            let screen = Screen { colour_start: colour, depth_start: depth, size_number: s };
             let ram = 2 * bytes as usize + 7;
             for row in rows {
                 let number = if row < height { 0 } else { 8 };
@@ -398,7 +398,7 @@ fn areas(run: &mut Run, rng: &mut Rng) {
         ];
         list.push((a / 2, a + a / 2, exact + a as usize, 0));
         for (colour, depth, ram, number) in list {
-            each_call(run, rng, ram, Screen { colour, depth, size: s }, number);
+            each_call(run, rng, ram, Screen { colour_start: colour, depth_start: depth, size_number: s }, number);
         }
     }
 }
@@ -410,7 +410,7 @@ fn every_start(run: &mut Run, rng: &mut Rng) {
     for ram in [63, 64, 65, 66, 67] {
         for colour in 0..=70 {
             for depth in 0..=70 {
-                let screen = Screen { colour, depth, size: s };
+                let screen = Screen { colour_start: colour, depth_start: depth, size_number: s };
                 let fits = |start: u32| start.is_multiple_of(2) && start as usize + 32 <= ram;
                 let apart = colour.abs_diff(depth) >= 32;
                 let number = if fits(colour) && fits(depth) && apart { 0 } else { 5 };
@@ -439,7 +439,7 @@ fn starts_near_the_top(run: &mut Run, rng: &mut Rng) {
             for &top in &tops {
                 for (colour, depth) in [(top, 0), (0, top), (top, top), (top, top.wrapping_add(a)), (a, top), (top, a)]
                 {
-                    let screen = Screen { colour, depth, size: s };
+                    let screen = Screen { colour_start: colour, depth_start: depth, size_number: s };
                     let fits = |start: u32| start.is_multiple_of(2) && u64::from(start) + u64::from(a) <= ram as u64;
                     let apart = colour.abs_diff(depth) >= a;
                     let number = if fits(colour) && fits(depth) && apart { 0 } else { 5 };
@@ -490,7 +490,13 @@ fn ram_lengths(run: &mut Run, rng: &mut Rng) {
                 } else {
                     5
                 };
-                each_call(run, rng, ram, Screen { colour: colour as u32, depth: depth as u32, size: s }, number);
+                each_call(
+                    run,
+                    rng,
+                    ram,
+                    Screen { colour_start: colour as u32, depth_start: depth as u32, size_number: s },
+                    number,
+                );
             }
         }
     }
@@ -501,23 +507,23 @@ fn ram_lengths(run: &mut Run, rng: &mut Rng) {
 fn several_faults(run: &mut Run, rng: &mut Rng) {
     let s = size(2, 8);
     let a = area(s);
-    let good = Screen { colour: 0, depth: a, size: s };
+    let good = Screen { colour_start: 0, depth_start: a, size_number: s };
     let unsound = [
-        Screen { size: 0, ..good },
-        Screen { size: size(2, 0), ..good },
-        Screen { size: size(2, 481), ..good },
-        Screen { size: size(0, 8), ..good },
-        Screen { size: size(41, 8), ..good },
-        Screen { size: u32::MAX, ..good },
-        Screen { size: s | 1 << 16, ..good },
-        Screen { colour: 1, ..good },
-        Screen { depth: a + 1, ..good },
-        Screen { depth: a - 2, ..good },
-        Screen { colour: 0, depth: 0, ..good },
-        Screen { colour: u32::MAX - 1, ..good },
-        Screen { depth: 0u32.wrapping_sub(a), ..good },
-        Screen { colour: 4_194_306, ..good },
-        Screen { colour: u32::MAX, depth: u32::MAX, size: u32::MAX },
+        Screen { size_number: 0, ..good },
+        Screen { size_number: size(2, 0), ..good },
+        Screen { size_number: size(2, 481), ..good },
+        Screen { size_number: size(0, 8), ..good },
+        Screen { size_number: size(41, 8), ..good },
+        Screen { size_number: u32::MAX, ..good },
+        Screen { size_number: s | 1 << 16, ..good },
+        Screen { colour_start: 1, ..good },
+        Screen { depth_start: a + 1, ..good },
+        Screen { depth_start: a - 2, ..good },
+        Screen { colour_start: 0, depth_start: 0, ..good },
+        Screen { colour_start: u32::MAX - 1, ..good },
+        Screen { depth_start: 0u32.wrapping_sub(a), ..good },
+        Screen { colour_start: 4_194_306, ..good },
+        Screen { colour_start: u32::MAX, depth_start: u32::MAX, size_number: u32::MAX },
     ];
     let mut screens = vec![(good, true)];
     screens.extend(unsound.map(|screen| (screen, false)));
@@ -543,7 +549,7 @@ fn several_faults(run: &mut Run, rng: &mut Rng) {
             let clear = Call::Clear { colour: 0x1234, depth: 0x5678 };
             run.case_wants(&Case::one(ram, Fill::Random(rng.next()), screen, clear), first, None, None);
             let draws = triangles.iter().map(|&(t, fits)| (Call::Draw(t), if fits { 0 } else { 6 }));
-            let height = u64::from(screen.size % 512);
+            let height = u64::from(screen.size_number % 512);
             let rows = [0, 7, 8, 9, u32::MAX].into_iter().flat_map(|row| {
                 let number = if u64::from(row) < height { 0 } else { 8 };
                 [(Call::RowCheck { row }, number), (Call::Row { row }, number)]
@@ -875,7 +881,7 @@ fn depth(run: &mut Run, rng: &mut Rng) {
             let mut t = covers_all(rng);
             t.depth = plane(rng);
             if rng.chance(2) {
-                set_vertices(&mut t, vertices(&random::triangle(rng, 32, 16)));
+                t.vertices = random::triangle(rng, 32, 16).vertices;
             }
             calls.push(Call::Draw(t));
         }
@@ -988,7 +994,7 @@ fn two_orders(run: &mut Run, rng: &mut Rng) {
                 }
                 let was = match stored {
                     Some(depth) => i128::from(depth),
-                    None => second::half_word(&before, i128::from(screen.depth) + (y * 32 + x) * 2),
+                    None => second::half_word(&before, i128::from(screen.depth_start) + (y * 32 + x) * 2),
                 };
                 let depths = (second::depth_at(&one, x, y), second::depth_at(&two, x, y));
                 let equal_colours = second::colour_at(&one, x, y) == second::colour_at(&two, x, y);

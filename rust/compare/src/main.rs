@@ -18,11 +18,11 @@ mod check;
 mod groups;
 mod machine;
 mod random;
-mod rng;
 mod run;
 mod shrink;
 mod subject;
 
+use kit::args::{number, Arg, Args};
 use run::Run;
 use std::process::ExitCode;
 use std::time::{SystemTime, UNIX_EPOCH};
@@ -115,7 +115,7 @@ struct Asked {
 
 fn clock_seed() -> u64 {
     let now = SystemTime::now().duration_since(UNIX_EPOCH).map_or(0, |d| d.as_nanos() as u64);
-    rng::Rng::new(now).next() % 1_000_000_000_000
+    kit::rng::Rng::new(now).next() % 1_000_000_000_000
 }
 
 fn asked() -> Result<Asked, String> {
@@ -130,28 +130,27 @@ fn asked() -> Result<Asked, String> {
         self_check: false,
         case: None,
     };
-    let mut words = std::env::args().skip(1);
-    while let Some(word) = words.next() {
-        let mut value = || words.next().ok_or(format!("{word} needs a value"));
-        let number = |text: String| text.parse::<u64>().map_err(|_| format!("not a number: {text}"));
+    let mut args = Args::from_env()?;
+    while let Some(arg) = args.next() {
+        let (Arg::Option(word) | Arg::Plain(word)) = arg;
         match word.as_str() {
             "--seed" => {
-                let text = value()?;
-                asked.seeds = if text == "random" { vec![1, clock_seed()] } else { vec![number(text)?] };
+                let text = args.value()?;
+                asked.seeds = if text == "random" { vec![1, clock_seed()] } else { vec![number(&text)?] };
             }
             "--drawing" => asked.halves = vec![Half::Drawing],
             "--machine" => asked.halves = vec![Half::Machine],
-            "--calls" => asked.calls = Some(number(value()?)?),
-            "--programs" => asked.programs = Some(number(value()?)?),
-            "--minutes" => asked.minutes = number(value()?)?,
+            "--calls" => asked.calls = Some(args.number()?),
+            "--programs" => asked.programs = Some(args.number()?),
+            "--minutes" => asked.minutes = args.number()?,
             "--trace" => asked.trace = true,
             "--self-check" => asked.self_check = true,
             "--broken" => {
-                let name = value()?;
+                let name = args.value()?;
                 let slip = SLIPS.iter().find(|(known, _)| *known == name);
                 asked.broken = Some(slip.ok_or(format!("no such variant: {name}"))?.1);
             }
-            "--case" => asked.case = Some(One::read(&value()?)?),
+            "--case" => asked.case = Some(One::read(&args.value()?)?),
             _ => return Err(format!("unknown: {word}")),
         }
     }

@@ -2,8 +2,8 @@
 
 use crate::case::{plain, Call, Case, Fill, Step};
 use crate::groups::{area, size};
-use crate::rng::Rng;
 use crate::run::Run;
+use kit::rng::Rng;
 use merikohin::{Plane, Screen, Triangle};
 use std::time::{Duration, Instant};
 
@@ -126,7 +126,7 @@ pub fn sound_screen(rng: &mut Rng, s: u32, ram: usize) -> Screen {
     let (low, high) = (before, before + bytes + between);
     let swapped = rng.chance(2);
     let (colour, depth) = if swapped { (high, low) } else { (low, high) };
-    Screen { colour: colour as u32, depth: depth as u32, size: s }
+    Screen { colour_start: colour as u32, depth_start: depth as u32, size_number: s }
 }
 
 fn call(rng: &mut Rng, s: u32) -> Call {
@@ -147,34 +147,41 @@ fn call(rng: &mut Rng, s: u32) -> Call {
 fn spoil(rng: &mut Rng, step: &mut Step, ram: usize) {
     loop {
         let screen = &mut step.screen;
-        let bytes = area(screen.size % (64 * 512));
+        let bytes = area(screen.size_number % (64 * 512));
         match rng.next() % 22 {
-            0 => screen.colour |= 1,
-            1 => screen.depth |= 1,
-            2 => screen.size = rng.next() as u32,
-            3 => screen.size = screen.size & !511 | rng.pick(&[0, 481, 482, 511]),
-            4 => screen.size = screen.size % 512 + 512 * rng.pick(&[0, 41, 42, 64, 127, 128, 129]),
-            5 => screen.size |= rng.pick(&[1 << 15, 1 << 16, 1 << 17, 1 << 24, 1 << 31]),
-            6 => screen.colour = screen.depth.wrapping_add(rng.pick(&[0, 2, 4])),
-            7 => screen.depth = screen.colour.wrapping_add(bytes).wrapping_sub(rng.pick(&[2, 4, 1])),
-            8 => screen.colour = (ram as u32).wrapping_sub(bytes).wrapping_add(rng.pick(&[1, 2, 4, 32])),
+            0 => screen.colour_start |= 1,
+            1 => screen.depth_start |= 1,
+            2 => screen.size_number = rng.next() as u32,
+            3 => screen.size_number = screen.size_number & !511 | rng.pick(&[0, 481, 482, 511]),
+            4 => screen.size_number = screen.size_number % 512 + 512 * rng.pick(&[0, 41, 42, 64, 127, 128, 129]),
+            5 => screen.size_number |= rng.pick(&[1 << 15, 1 << 16, 1 << 17, 1 << 24, 1 << 31]),
+            6 => screen.colour_start = screen.depth_start.wrapping_add(rng.pick(&[0, 2, 4])),
+            7 => screen.depth_start = screen.colour_start.wrapping_add(bytes).wrapping_sub(rng.pick(&[2, 4, 1])),
+            8 => screen.colour_start = (ram as u32).wrapping_sub(bytes).wrapping_add(rng.pick(&[1, 2, 4, 32])),
             9 => {
-                screen.depth =
+                screen.depth_start =
                     rng.pick(&[0u32.wrapping_sub(bytes), 0u32.wrapping_sub(2), u32::MAX, 1 << 31, ram as u32])
             }
-            10 => screen.colour = rng.next() as u32,
+            10 => screen.colour_start = rng.next() as u32,
             _ => {
-                let height = screen.size % 512;
+                let height = screen.size_number % 512;
                 match &mut step.call {
                     Call::Draw(t) => {
                         let far = rng.pick(&[8192, -8193, 8193, 65536, -65536, i32::MAX, i32::MIN, 1 << 20]);
-                        let slot = [&mut t.x1, &mut t.y1, &mut t.x2, &mut t.y2, &mut t.x3, &mut t.y3];
+                        let slot = [
+                            &mut t.vertices.x1,
+                            &mut t.vertices.y1,
+                            &mut t.vertices.x2,
+                            &mut t.vertices.y2,
+                            &mut t.vertices.x3,
+                            &mut t.vertices.y3,
+                        ];
                         *slot.into_iter().nth((rng.next() % 6) as usize).expect("six") = far;
                     }
                     Call::Row { row } | Call::RowCheck { row } => {
                         *row = rng.pick(&[height, height + 1, 511, 512, u32::MAX, 1 << 31, 1 << 27]);
                     }
-                    Call::Clear { .. } => step.screen.size = 0,
+                    Call::Clear { .. } => step.screen.size_number = 0,
                 }
             }
         }
@@ -213,7 +220,7 @@ fn case(rng: &mut Rng) -> Case {
         } else {
             screen
         };
-        let mut step = Step { screen, call: call(rng, screen.size) };
+        let mut step = Step { screen, call: call(rng, screen.size_number) };
         if rng.chance(4) {
             spoil(rng, &mut step, ram);
         }
@@ -234,7 +241,7 @@ pub fn calls(run: &mut Run, rng: &mut Rng) {
         if let Some(answers) = run.case(&case) {
             for (answer, step) in answers.iter().zip(&case.steps) {
                 by_number[(answer.number as usize).min(8)] += 1;
-                full += u64::from(answer.number == 0 && step.screen.size == 20960);
+                full += u64::from(answer.number == 0 && step.screen.size_number == 20960);
                 covered += u64::from(answer.covered);
                 written += u64::from(answer.written);
                 drawn += u64::from(answer.covered > 0);

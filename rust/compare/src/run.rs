@@ -3,10 +3,10 @@
 use crate::case::Case;
 use crate::check::{check, Answer, Memories};
 use crate::machine;
-use crate::rng::Rng;
 use crate::shrink::shrink;
 use crate::subject::Subject;
-use merikohin::Ran;
+use kit::rng::Rng;
+use merikohin::raw::Ran;
 
 pub struct Run {
     pub subject: Subject,

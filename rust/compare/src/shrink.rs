@@ -1,6 +1,6 @@
 //! Makes a mismatching case smaller for as long as it still mismatches.
 
-use crate::case::{planes, set_planes, set_vertices, vertices, Call, Case, Fill, Step, NO_PLANE};
+use crate::case::{planes, set_planes, Call, Case, Fill, Step, NO_PLANE};
 use crate::check::{check, Memories};
 use crate::subject::Subject;
 use merikohin::{Plane, Screen};
@@ -42,13 +42,13 @@ fn cost(case: &Case) -> u128 {
     };
     for step in &case.steps {
         sum += 1 << 40;
-        sum += u128::from(step.screen.colour) + u128::from(step.screen.depth);
-        sum += u128::from(step.screen.size / 512) * 4096 + u128::from(step.screen.size % 512) * 256;
+        sum += u128::from(step.screen.colour_start) + u128::from(step.screen.depth_start);
+        sum += u128::from(step.screen.size_number / 512) * 4096 + u128::from(step.screen.size_number % 512) * 256;
         match step.call {
             Call::Clear { colour, depth } => sum += u128::from(colour) + u128::from(depth),
             Call::RowCheck { row } | Call::Row { row } => sum += u128::from(row),
             Call::Draw(t) => {
-                sum += vertices(&t).iter().map(|v| u128::from(v.unsigned_abs())).sum::<u128>();
+                sum += t.vertices.numbers().iter().map(|v| u128::from(v.unsigned_abs())).sum::<u128>();
                 for p in planes(&t) {
                     sum += [p.c, p.a, p.b].iter().map(|v| u128::from(v.unsigned_abs())).sum::<u128>();
                 }
@@ -67,7 +67,7 @@ pub fn smaller(value: i64) -> Vec<i64> {
 }
 
 fn area(screen: Screen) -> u64 {
-    u64::from(screen.size / 512) * u64::from(screen.size % 512) * 32
+    u64::from(screen.size_number / 512) * u64::from(screen.size_number % 512) * 32
 }
 
 fn candidates(case: &Case) -> Vec<Case> {
@@ -90,20 +90,20 @@ fn candidates(case: &Case) -> Vec<Case> {
             }
             next
         };
-        let (groups, height) = (old.size / 512, old.size % 512);
+        let (groups, height) = (old.size_number / 512, old.size_number % 512);
         for g in smaller(i64::from(groups)) {
-            found.push(fitted(change_all(Screen { size: g as u32 * 512 + height, ..old })));
-            found.push(change_all(Screen { size: g as u32 * 512 + height, ..old }));
+            found.push(fitted(change_all(Screen { size_number: g as u32 * 512 + height, ..old })));
+            found.push(change_all(Screen { size_number: g as u32 * 512 + height, ..old }));
         }
         for h in smaller(i64::from(height)) {
-            found.push(fitted(change_all(Screen { size: groups * 512 + h as u32, ..old })));
-            found.push(change_all(Screen { size: groups * 512 + h as u32, ..old }));
+            found.push(fitted(change_all(Screen { size_number: groups * 512 + h as u32, ..old })));
+            found.push(change_all(Screen { size_number: groups * 512 + h as u32, ..old }));
         }
-        for start in smaller(i64::from(old.colour)) {
-            found.push(change_all(Screen { colour: start as u32, ..old }));
+        for start in smaller(i64::from(old.colour_start)) {
+            found.push(change_all(Screen { colour_start: start as u32, ..old }));
         }
-        for start in smaller(i64::from(old.depth)) {
-            found.push(change_all(Screen { depth: start as u32, ..old }));
+        for start in smaller(i64::from(old.depth_start)) {
+            found.push(change_all(Screen { depth_start: start as u32, ..old }));
         }
     }
     found.push(fitted(case.clone()));
@@ -152,10 +152,10 @@ fn candidates(case: &Case) -> Vec<Case> {
                 }
                 let with_vertices = |v: [i32; 6]| {
                     let mut new = t;
-                    set_vertices(&mut new, v);
+                    new.vertices = v.into();
                     Call::Draw(new)
                 };
-                let v = vertices(&t);
+                let v = t.vertices.numbers();
                 // The whole triangle moved, or halved.
                 for by in [4096, 1024, 256, 64, 16, 8, 1, -1, -8, -64, -256, -1024, -4096] {
                     push(with_vertices([
@@ -209,8 +209,8 @@ fn fitted(mut case: Case) -> Case {
     for step in &mut case.steps {
         let bytes = area(step.screen);
         if bytes <= 2_097_152 {
-            step.screen.colour = 0;
-            step.screen.depth = bytes as u32;
+            step.screen.colour_start = 0;
+            step.screen.depth_start = bytes as u32;
             needed = needed.max(2 * bytes as usize);
         }
     }

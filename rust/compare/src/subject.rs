@@ -4,7 +4,8 @@
 use crate::case::{second_screen, second_triangle};
 use crate::machine::broken;
 use crate::machine::case::plain_state;
-use merikohin::{Drawn, Ran, Screen, State, Triangle};
+use merikohin::raw::{self, Drawn, Ran};
+use merikohin::{Refusal, Screen, State, Triangle};
 
 /// The slips a wrong variant can have: four of the drawing, the others of the
 /// machine.
@@ -110,7 +111,7 @@ impl Subject {
 
     pub fn clear(self, ram: &mut [u8], s: Screen, colour: u16, depth: u16) -> u32 {
         match self {
-            Subject::Engine => merikohin::clear(ram, s, colour, depth),
+            Subject::Engine => number_of(merikohin::clear(ram, s, colour, depth)),
             Subject::Broken(slip) => {
                 let number = second::clear(ram, second_screen(s), colour, depth);
                 if number != 0 {
@@ -123,14 +124,14 @@ impl Subject {
 
     pub fn draw(self, ram: &mut [u8], s: Screen, t: Triangle) -> Drawn {
         match self {
-            Subject::Engine => merikohin::draw(ram, s, t),
+            Subject::Engine => raw::draw(ram, s, t),
             Subject::Broken(slip) => broken_draw(slip, ram, second_screen(s), &second_triangle(&t)),
         }
     }
 
     pub fn row_check(self, ram: &[u8], s: Screen, row: u32) -> u32 {
         match self {
-            Subject::Engine => merikohin::row_check(ram, s, row),
+            Subject::Engine => number_of(merikohin::row_check(ram, s, row)),
             Subject::Broken(_) => second::row_check(ram, second_screen(s), row),
         }
     }
@@ -138,15 +139,15 @@ impl Subject {
     pub fn row(self, ram: &[u8], s: Screen, row: u32) -> RowSeen {
         match self {
             Subject::Engine => {
-                let raw = merikohin::row_part(ram, s, row);
-                let end = u128::from(raw.start) + u128::from(raw.length);
+                let located = raw::row(ram, s, row);
+                let end = u128::from(located.start) + u128::from(located.length);
                 let part = if end <= ram.len() as u128 {
-                    let (number, part) = merikohin::row(ram, s, row);
-                    (number == raw.number).then(|| part_of(ram, part))
+                    let answer = merikohin::row(ram, s, row);
+                    (number_of(answer) == located.number).then(|| part_of(ram, answer.unwrap_or(&ram[..0])))
                 } else {
                     None
                 };
-                RowSeen { number: raw.number, start: raw.start, length: raw.length, part }
+                RowSeen { number: located.number, start: located.start, length: located.length, part }
             }
             Subject::Broken(_) => {
                 let (number, part) = second::row(ram, second_screen(s), row);
@@ -158,17 +159,22 @@ impl Subject {
 
     pub fn fresh(self) -> State {
         match self {
-            Subject::Engine => merikohin::fresh(),
+            Subject::Engine => raw::fresh(),
             Subject::Broken(_) => plain_state(&second::machine::fresh()),
         }
     }
 
     pub fn run(self, program: &[u32], data: &mut [u32], ram: &mut [u8], state: State, budget: u64) -> Ran {
         match self {
-            Subject::Engine => merikohin::run(program, data, ram, state, budget),
+            Subject::Engine => raw::run(program, data, ram, state, budget),
             Subject::Broken(slip) => broken::run(slip, program, data, ram, state, budget),
         }
     }
+}
+
+/// The number of an answer of the Rust layer.
+fn number_of<T>(answer: Result<T, Refusal>) -> u32 {
+    answer.map_or_else(Refusal::number, |_| 0)
 }
 
 fn refused(slip: Slip, ram: &mut [u8]) {

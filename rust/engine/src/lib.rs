@@ -2,229 +2,227 @@
 //! of 41 instructions that shares its screens.
 //!
 //! A thin layer over the proved library `libmerikohin.a` (its C interface is
-//! `include/merikohin.h`). Memory is lent to a call as a slice; every call
-//! answers a number (but `fresh`, which answers a state), and nothing is asked of
-//! the caller: every value of every argument is allowed.
+//! `include/merikohin.h`, and each function here has the name of C's without
+//! `merikohin_`). Memory is lent to a call as a slice. A refused call answers
+//! the number as a [`Refusal`] and changes nothing; apart from that nothing is
+//! asked of the caller: every value of every argument is allowed.
 //!
-//! | Number | Given exactly when |
-//! |---|---|
-//! | 0 | done |
-//! | 1 | program longer than 1,024 words |
-//! | 2 | data memory not 1,024 words |
-//! | 3 | RAM longer than 4,194,304 bytes |
-//! | 4 | machine state ill-formed |
-//! | 5 | screen not sound |
-//! | 6 | a vertex number outside -8192..8191 |
-//! | 7 | an edge value at some pixel of the screen outside signed 32 bits |
-//! | 8 | row not below the height |
+//! ```
+//! use merikohin::{Plane, Screen, Triangle};
 //!
-//! The lowest number that applies to the call wins. Every number but 0 comes
-//! with counts of 0 and the state as given, and leaves the lent memory as it
-//! was.
+//! # fn main() -> Result<(), merikohin::Refusal> {
+//! let mut ram = [0; 256]; // lent to each call
+//! let screen = Screen::new(0, 128, 16, 4);
+//! merikohin::clear(&mut ram, screen, 0, 65535)?;
+//! let triangle = Triangle {
+//!     vertices: [0, 0, 32, 0, 0, 32].into(), // in eighths of a pixel
+//!     blue: Plane { c: 1 << 16, a: 0, b: 0 },
+//!     ..Triangle::default()
+//! };
+//! let drawn = merikohin::draw(&mut ram, screen, triangle)?;
+//! assert_eq!((drawn.covered, drawn.written), (10, 10));
+//! assert_eq!(merikohin::row(&ram, screen, 3)?[..4], [0, 1, 0, 0]);
+//! # Ok(())
+//! # }
+//! ```
+
+mod data;
+pub mod raw;
+mod refusal;
+
+pub use data::{Plane, Screen, State, Tree, Triangle, Vertices};
+pub use refusal::{Halt, Refusal};
 
 /// The directory the library was linked from: `target/staticlib`, or what
 /// MERIKOHIN_LIB_DIR named at the time.
 pub const LINKED_FROM: &str = env!("MERIKOHIN_LINKED_FROM");
 
-/// A screen: colour start, depth start, and the size number S.
-#[repr(C)]
-#[derive(Clone, Copy, Debug, PartialEq, Eq)]
-pub struct Screen {
-    pub colour: u32,
-    pub depth: u32,
-    pub size: u32,
-}
+/// Words of a program at most.
+pub const PROGRAM_MOST: usize = 1024;
+/// Words of data memory, no more and no less.
+pub const MEMORY_WORDS: usize = 1024;
+/// Bytes of RAM at most.
+pub const RAM_MOST: usize = 4_194_304;
+/// Pixels of a row at most.
+pub const WIDTH_MOST: u32 = 640;
+/// Rows of a screen at most.
+pub const HEIGHT_MOST: u32 = 480;
+/// The least vertex number, in eighths of a pixel.
+pub const VERTEX_LEAST: i32 = -8192;
+/// The greatest vertex number.
+pub const VERTEX_MOST: i32 = 8191;
 
-/// A plane: at pixel (x, y) it has c + a·x + b·y, taken modulo 2^32.
-#[repr(C)]
-#[derive(Clone, Copy, Debug, PartialEq, Eq)]
-pub struct Plane {
-    pub c: i32,
-    pub a: i32,
-    pub b: i32,
-}
-
-/// Three vertices in eighths of a pixel and four planes.
-#[repr(C)]
-#[derive(Clone, Copy, Debug, PartialEq, Eq)]
-pub struct Triangle {
-    pub x1: i32,
-    pub y1: i32,
-    pub x2: i32,
-    pub y2: i32,
-    pub x3: i32,
-    pub y3: i32,
-    pub depth: Plane,
-    pub red: Plane,
-    pub green: Plane,
-    pub blue: Plane,
-}
-
-/// The answer to a triangle: its number, pixels covered, pixels written.
-#[repr(C)]
+/// What a triangle did: pixels covered, and how many of these were written.
 #[derive(Clone, Copy, Debug, PartialEq, Eq)]
 pub struct Drawn {
-    pub number: u32,
     pub covered: u32,
     pub written: u32,
 }
 
-/// The answer to a row, in places: the row's own bytes are
-/// `ram[start..start + length]`.
-#[repr(C)]
-#[derive(Clone, Copy, Debug, PartialEq, Eq)]
-pub struct RowPart {
-    pub number: u32,
-    pub start: u64,
-    pub length: u64,
-}
-
-/// A tree: where its first leaf stands, and for each of its sixteen leaves the
-/// marks I and O, the colour and the depth. A mark, and `held`, is 0 for no and
-/// anything else for yes, and is answered as 0 or 1. The depths mean nothing
-/// where none are held.
-#[repr(C)]
-#[derive(Clone, Copy, Debug, PartialEq, Eq)]
-pub struct Tree {
-    pub column: u32,
-    pub row: u32,
-    pub inside: [u8; 16],
-    pub outside: [u8; 16],
-    pub colour: [u16; 16],
-    pub depth: [u16; 16],
-    pub held: u32,
-}
-
-/// A machine state. `regs[0]` is always 0. The flags, `shown` (there is a
-/// screen) and `planted` (there is a tree) are 0 for no and anything else for
-/// yes, and are answered as 0 or 1. The screen means nothing where none is
-/// shown, the tree where none is planted.
-///
-/// A state is ill-formed exactly if `regs[0]` is not 0, the halt number is none
-/// of 0 and 11 to 17, it has a screen that is not sound in this RAM, or it has
-/// a tree and no screen, or a tree whose column is not a multiple of 16 below
-/// the width or whose row is not below the height.
-#[repr(C)]
-#[derive(Clone, Copy, Debug, PartialEq, Eq)]
-pub struct State {
-    pub regs: [u32; 32],
-    pub place: u32,
-    pub negative: u32,
-    pub zero: u32,
-    pub halt: u32,
-    pub shown: u32,
-    pub screen: Screen,
-    pub planted: u32,
-    pub tree: Tree,
-}
-
-/// The answer to a run: its number, the steps carried out, and the state in
-/// which it stopped.
-#[repr(C)]
+/// What a run did: the steps carried out, and the state in which it stopped.
 #[derive(Clone, Copy, Debug, PartialEq, Eq)]
 pub struct Ran {
-    pub number: u32,
     pub steps: u64,
     pub state: State,
 }
 
-// The sizes the C declarations have on the platform of the library.
-const _: () = assert!(size_of::<Tree>() == 108 && size_of::<State>() == 272 && size_of::<Ran>() == 288);
-
-mod library {
-    use super::{Drawn, Ran, RowPart, Screen, State, Triangle};
-
-    #[link(name = "merikohin", kind = "static")]
-    extern "C" {
-        pub fn merikohin_clear(ram: *mut u8, ram_len: usize, s: Screen, colour: u16, depth: u16) -> u32;
-        pub fn merikohin_draw(ram: *mut u8, ram_len: usize, s: Screen, t: Triangle) -> Drawn;
-        pub fn merikohin_row_check(ram: *const u8, ram_len: usize, s: Screen, row: u32) -> u32;
-        pub fn merikohin_row(ram: *const u8, ram_len: usize, s: Screen, row: u32) -> RowPart;
-        pub fn merikohin_fresh() -> State;
-        pub fn merikohin_run(
-            program: *const u32,
-            program_len: usize,
-            memory: *mut u32,
-            memory_len: usize,
-            ram: *mut u8,
-            ram_len: usize,
-            state: State,
-            budget: u64,
-        ) -> Ran;
+/// The refusal of a number; done where it is 0. The library answers no number
+/// without its refusal.
+fn done(number: u32) -> Result<(), Refusal> {
+    match number {
+        0 => Ok(()),
+        _ => Err(Refusal::from_number(number).expect("the library answers 0 to 8")),
     }
 }
 
-/// Gives every pixel of the screen one colour and one depth. Answers 0, 3 or 5.
-pub fn clear(ram: &mut [u8], screen: Screen, colour: u16, depth: u16) -> u32 {
-    // SAFETY: the slice is lent whole, for the length of the call.
-    unsafe { library::merikohin_clear(ram.as_mut_ptr(), ram.len(), screen, colour, depth) }
+/// Gives every pixel of the screen one colour and one depth. Refuses with 3 and
+/// 5.
+///
+/// ```
+/// use merikohin::{clear, Refusal, Screen};
+/// let mut ram = [0; 64];
+/// assert_eq!(clear(&mut ram, Screen::new(0, 32, 16, 1), 1, 2), Ok(()));
+/// assert_eq!((ram[1], ram[63]), (1, 2));
+/// assert_eq!(clear(&mut ram, Screen::new(0, 32, 16, 2), 3, 4), Err(Refusal::ScreenNotSound));
+/// assert_eq!((ram[1], ram[63]), (1, 2));
+/// ```
+pub fn clear(ram: &mut [u8], screen: Screen, colour: u16, depth: u16) -> Result<(), Refusal> {
+    done(raw::clear(ram, screen, colour, depth))
 }
 
-/// Draws a triangle. Answers 0, 3, 5, 6 or 7, with the numbers of pixels
-/// covered and written.
-pub fn draw(ram: &mut [u8], screen: Screen, triangle: Triangle) -> Drawn {
-    // SAFETY: the slice is lent whole, for the length of the call.
-    unsafe { library::merikohin_draw(ram.as_mut_ptr(), ram.len(), screen, triangle) }
+/// Draws a triangle: each pixel (x, y) whose point (8x, 8y) is inside all three
+/// edges is covered, and written where its depth is at most the stored one.
+/// Refuses with 3, 5, 6 and 7.
+///
+/// ```
+/// use merikohin::{draw, Refusal, Screen, Triangle};
+/// let mut ram = [0; 256];
+/// let screen = Screen::new(0, 128, 16, 4);
+/// let outside = Triangle { vertices: [8192, 0, 32, 0, 0, 32].into(), ..Triangle::default() };
+/// assert_eq!(draw(&mut ram, screen, outside), Err(Refusal::VertexOutOfRange));
+/// ```
+pub fn draw(ram: &mut [u8], screen: Screen, triangle: Triangle) -> Result<Drawn, Refusal> {
+    let drawn = raw::draw(ram, screen, triangle);
+    done(drawn.number).map(|()| Drawn { covered: drawn.covered, written: drawn.written })
 }
 
-/// Answers 0, 3, 5 or 8: the number [`row`] answers for the same inputs.
-pub fn row_check(ram: &[u8], screen: Screen, row: u32) -> u32 {
-    // SAFETY: the slice is lent whole, for the length of the call.
-    unsafe { library::merikohin_row_check(ram.as_ptr(), ram.len(), screen, row) }
+/// Whether a row can be read: what [`row`] refuses, this refuses with the same
+/// number.
+///
+/// ```
+/// use merikohin::{row_check, Refusal, Screen};
+/// let screen = Screen::new(0, 128, 16, 4);
+/// assert_eq!(row_check(&[0; 256], screen, 3), Ok(()));
+/// assert_eq!(row_check(&[0; 255], screen, 3), Err(Refusal::ScreenNotSound));
+/// ```
+pub fn row_check(ram: &[u8], screen: Screen, row: u32) -> Result<(), Refusal> {
+    done(raw::row_check(ram, screen, row))
 }
 
-/// Where the row's own bytes lie in `ram`. Answers 0, 3, 5 or 8; refused, the
-/// start and the length are 0.
-pub fn row_part(ram: &[u8], screen: Screen, row: u32) -> RowPart {
-    // SAFETY: the slice is lent whole, for the length of the call.
-    unsafe { library::merikohin_row(ram.as_ptr(), ram.len(), screen, row) }
-}
-
-/// The row's own colour bytes, a part of `ram` and not a copy. Answers 0, 3, 5
-/// or 8; refused, the part is empty.
-pub fn row(ram: &[u8], screen: Screen, row: u32) -> (u32, &[u8]) {
-    let part = row_part(ram, screen, row);
-    let start = part.start as usize;
-    let length = part.length as usize;
-    (part.number, &ram[start..][..length])
+/// The row's own 2 × width colour bytes, a part of `ram` and not a copy. C has
+/// where that part stands ([`raw::row`]). Refuses with 3, 5 and 8.
+///
+/// ```
+/// use merikohin::{row, Refusal, Screen};
+/// let ram = [7; 256];
+/// let screen = Screen::new(0, 128, 16, 4);
+/// assert_eq!(row(&ram, screen, 3), Ok(&ram[96..128]));
+/// assert_eq!(row(&ram, screen, 4), Err(Refusal::RowOutOfRange));
+/// ```
+pub fn row(ram: &[u8], screen: Screen, row: u32) -> Result<&[u8], Refusal> {
+    let part = raw::row(ram, screen, row);
+    done(part.number).map(|()| &ram[part.start as usize..][..part.length as usize])
 }
 
 /// A fresh state: place 0, registers 0, flags clear, no screen, no tree, halt
 /// number 0.
+///
+/// ```
+/// let state = merikohin::fresh();
+/// assert_eq!((state.place, state.screen(), state.tree(), state.halted()), (0, None, None, None));
+/// ```
+#[must_use]
 pub fn fresh() -> State {
-    // SAFETY: nothing is lent.
-    unsafe { library::merikohin_fresh() }
+    raw::fresh()
 }
 
 /// Runs a program from a state until as many steps as the budget says have been
-/// carried out or one halts. Answers 0, 1, 2, 3 or 4, with the steps carried
-/// out and the state they lead to. A halting step changes only the halt number
-/// and is not counted; a halted state runs 0 steps and stays.
+/// carried out or one halts. A halting step changes only the halt number and is
+/// not counted; a halted state runs 0 steps and stays. A program ends by running
+/// past its last word ([`Halt::Place`], 12). Refuses with 1, 2, 3 and 4; the
+/// state is then still the caller's.
 ///
-/// | Halt | Given exactly when |
-/// |---|---|
-/// | 12 | place not below the program's length |
-/// | 11 | opcode above 40 |
-/// | 13 | LD, ST address above 1,023; a DOT start above 1,020 |
-/// | 15 | READ, WRITE data address above 1,008 |
-/// | 16 | their RAM address not a multiple of 4, or its 64 bytes not all in RAM |
-/// | 17 | SCRSET to a screen not sound; CLS or TREESET with none |
-/// | 14 | TREESET place refused; TREEIN, TREEVAL, TREEPUT with no tree; TREEVAL imm above 3 |
-///
-/// The first row that applies wins.
-pub fn run(program: &[u32], memory: &mut [u32], ram: &mut [u8], state: State, budget: u64) -> Ran {
-    // SAFETY: the three slices are lent whole, for the length of the call, and
-    // do not overlap; the program is only read.
-    unsafe {
-        library::merikohin_run(
-            program.as_ptr(),
-            program.len(),
-            memory.as_mut_ptr(),
-            memory.len(),
-            ram.as_mut_ptr(),
-            ram.len(),
-            state,
-            budget,
-        )
+/// ```
+/// use merikohin::{run, Halt, Refusal};
+/// let mut memory = [0; merikohin::MEMORY_WORDS];
+/// let program = [0x0820_0007]; // LI R1, R0(7)
+/// let ran = run(&program, &mut memory, &mut [], merikohin::fresh(), 1000)?;
+/// assert_eq!((ran.steps, ran.state.registers[1], ran.state.halted()), (1, 7, Some(Halt::Place)));
+/// assert_eq!(run(&program, &mut memory[1..], &mut [], merikohin::fresh(), 1000), Err(Refusal::MemoryNot1024));
+/// # Ok::<(), Refusal>(())
+/// ```
+pub fn run(program: &[u32], memory: &mut [u32], ram: &mut [u8], state: State, budget: u64) -> Result<Ran, Refusal> {
+    let ran = raw::run(program, memory, ram, state, budget);
+    done(ran.number).map(|()| Ran { steps: ran.steps, state: ran.state })
+}
+
+#[cfg(test)]
+mod tests {
+    use super::*;
+    use std::mem::size_of;
+
+    /// The sizes and offsets that include/merikohin.h asserts.
+    #[test]
+    fn laid_out_as_c() {
+        assert_eq!((size_of::<Screen>(), size_of::<Plane>(), size_of::<Vertices>()), (12, 12, 24));
+        assert_eq!((size_of::<Triangle>(), size_of::<raw::Drawn>(), size_of::<raw::RowPart>()), (72, 12, 24));
+        assert_eq!((size_of::<Tree>(), size_of::<State>(), size_of::<raw::Ran>()), (108, 272, 288));
+        let state = fresh();
+        let at = |field: *const u32| field as usize - &state as *const State as usize;
+        assert_eq!([at(&state.place), at(&state.negative), at(&state.zero), at(&state.halt)], [128, 132, 136, 140]);
+        assert_eq!([at(&state.has_screen), at(&state.has_tree), at(&state.tree.has_depth)], [144, 160, 268]);
+    }
+
+    /// The header's sentences and these are the same, and its constants too.
+    #[test]
+    fn says_what_the_header_says() {
+        let header = std::fs::read_to_string("../../include/merikohin.h").unwrap();
+        for refusal in Refusal::ALL {
+            assert!(header.contains(&format!("return \"{refusal}\";")), "{refusal}");
+            assert!(header.contains(&format!(" = {},", refusal.number())) || refusal.number() == 8);
+        }
+        for halt in Halt::ALL {
+            assert!(header.contains(&format!("return \"{halt}\";")), "{halt}");
+        }
+        for (name, value) in [
+            ("PROGRAM_MOST", PROGRAM_MOST as i64),
+            ("MEMORY_WORDS", MEMORY_WORDS as i64),
+            ("RAM_MOST", RAM_MOST as i64),
+            ("WIDTH_MOST", WIDTH_MOST.into()),
+            ("HEIGHT_MOST", HEIGHT_MOST.into()),
+            ("VERTEX_MOST", VERTEX_MOST.into()),
+        ] {
+            assert!(header.contains(&format!("#define MERIKOHIN_{name} {value}")), "{name}");
+        }
+        assert!(header.contains(&format!("#define MERIKOHIN_VERSION \"{}\"", env!("CARGO_PKG_VERSION"))));
+    }
+
+    #[test]
+    fn numbers_there_and_back() {
+        for number in 0..100 {
+            assert_eq!(Refusal::from_number(number).map_or(0, Refusal::number), if number < 9 { number } else { 0 });
+            let halts = (11..18).contains(&number);
+            assert_eq!(Halt::from_number(number).map_or(0, Halt::number), if halts { number } else { 0 });
+        }
+    }
+
+    #[test]
+    fn trees_by_meaning() {
+        let a = Tree { inside: [1; 16], depth: [3; 16], ..Tree::default() };
+        assert_eq!(a, Tree { inside: [9; 16], depth: [4; 16], ..a });
+        assert_ne!(Tree { has_depth: 1, ..a }, a);
+        assert_ne!(Tree { has_depth: 1, ..a }, Tree { has_depth: 1, depth: [4; 16], ..a });
+        assert_eq!(Tree { has_depth: 1, ..a }, Tree { has_depth: 2, ..a });
+        assert_ne!(Tree { outside: [1; 16], ..a }, a);
     }
 }

@@ -3,26 +3,34 @@
 //!
 //!     target/rust/release/picture > docs/picture.png
 
-mod png;
 mod scene;
 
+use kit::{pixels, png};
 use std::io::Write;
 
 fn main() {
-    let mut ram = vec![0; scene::RAM];
-    scene::draw(&mut ram);
-    let mut pixels = Vec::new();
-    for y in 0..scene::HEIGHT {
-        let (number, row) = merikohin::row(&ram, scene::SCREEN, y);
-        assert_eq!(number, 0);
-        pixels.extend(row.chunks(2).flat_map(|half| rgb(u16::from_be_bytes([half[0], half[1]]))));
-    }
-    let file = png::encode(scene::WIDTH, scene::HEIGHT, &pixels);
+    let file = png::encode(scene::WIDTH, scene::HEIGHT, &drawn());
     std::io::stdout().write_all(&file).expect("standard output takes the picture");
 }
 
-/// 5, 6 and 5 bits of colour, each spread over a byte.
-fn rgb(colour: u16) -> [u8; 3] {
-    let spread = |value: u16, most: u32| (u32::from(value) * 255 / most) as u8;
-    [spread(colour >> 11, 31), spread(colour >> 5 & 63, 63), spread(colour & 31, 31)]
+/// The picture, three bytes a pixel.
+fn drawn() -> Vec<u8> {
+    let mut ram = vec![0; scene::RAM];
+    scene::draw(&mut ram);
+    let row = |y: u32| merikohin::row(&ram, scene::SCREEN, y).expect("a row of the screen");
+    let colours: Vec<u16> = (0..scene::HEIGHT).flat_map(|y| pixels::halves(row(y))).collect();
+    pixels::rgb_rows(&colours)
+}
+
+#[cfg(test)]
+mod tests {
+    use super::*;
+
+    /// docs/picture.png, read back by the reader that shares nothing with the
+    /// writer, is what the engine draws.
+    #[test]
+    fn the_file_has_the_picture() {
+        let file = std::fs::read("../../docs/picture.png").unwrap();
+        assert!(png::decode(&file) == Ok((scene::WIDTH, scene::HEIGHT, drawn())));
+    }
 }

@@ -1,13 +1,14 @@
 //! The scene: the field and the pitch in perspective, the stumps, the ball's
 //! track over them, and below the waveform of the sound.
 
+use kit::rng::Rng;
 use merikohin::{Plane, Screen, Triangle};
 
 pub const WIDTH: u32 = 320;
 pub const HEIGHT: u32 = 240;
 const AREA: u32 = WIDTH * HEIGHT * 2;
 pub const RAM: usize = 2 * AREA as usize;
-pub const SCREEN: Screen = Screen { colour: 0, depth: AREA, size: WIDTH / 16 * 512 + HEIGHT };
+pub const SCREEN: Screen = Screen::new(0, AREA, WIDTH, HEIGHT);
 
 /// A point in pixels.
 type Point = (f64, f64);
@@ -27,7 +28,7 @@ mod depth {
 }
 
 pub fn draw(ram: &mut [u8]) {
-    assert_eq!(merikohin::clear(ram, SCREEN, 0, 65535), 0);
+    merikohin::clear(ram, SCREEN, 0, 65535).expect("the screen fits");
     // Nearest first: what comes later is hidden by depth and not by order.
     waveform(ram);
     track(ram);
@@ -99,12 +100,11 @@ fn disc(ram: &mut [u8], (x, y): Point, radius: f64, depth: i32, colour: Colour) 
 /// passes the bat, a louder one where it meets the pad.
 fn waveform(ram: &mut [u8]) {
     shaded(ram, [(0.0, 168.0), (320.0, 168.0), (320.0, 240.0), (0.0, 240.0)], depth::FIELD, (1, 3, 3), (3, 8, 7));
-    let mut noise = 1_u32;
+    let mut noise = Rng::new(1);
     for column in 0..WIDTH {
-        noise = noise.wrapping_mul(1_664_525).wrapping_add(1_013_904_223);
         let x = f64::from(column);
         let swell = |at: f64, wide: f64| (-((x - at) / wide).powi(2)).exp();
-        let rough = f64::from(noise >> 24) / 255.0;
+        let rough = noise.between(0, 255) as f64 / 255.0;
         let loud = 1.0 + rough * (2.0 + 26.0 * swell(150.0, 5.0) + 31.0 * swell(214.0, 16.0));
         let colour = if swell(150.0, 5.0) > 0.05 { (31, 50, 4) } else { (8, 54, 14) };
         quad(
@@ -145,6 +145,6 @@ fn flat((red, green, blue): Colour) -> [Plane; 3] {
 fn triangle(ram: &mut [u8], corners: [Point; 3], depth: i32, [red, green, blue]: [Plane; 3]) {
     let [(x1, y1), (x2, y2), (x3, y3)] = corners.map(|(x, y)| ((8.0 * x).round() as i32, (8.0 * y).round() as i32));
     let depth = Plane { c: depth << 16, a: 0, b: 0 };
-    let drawn = merikohin::draw(ram, SCREEN, Triangle { x1, y1, x2, y2, x3, y3, depth, red, green, blue });
-    assert_eq!(drawn.number, 0);
+    let triangle = Triangle { vertices: [x1, y1, x2, y2, x3, y3].into(), depth, red, green, blue };
+    merikohin::draw(ram, SCREEN, triangle).expect("the vertices are in range");
 }

@@ -2,9 +2,10 @@
 //! and the slip is put into the steps it concerns.
 
 use super::case::{plain_state, second_state};
-use super::words::fields;
 use crate::subject::Slip;
-use merikohin::{Ran, State};
+use kit::words::fields;
+use merikohin::raw::Ran;
+use merikohin::State;
 use second::machine::{self, leaf_value, ASRI, CALL, DOT, LD, MULF, READ, SCRSET, ST, TREEIN, TREEVAL, WRITE};
 
 pub fn run(slip: Slip, program: &[u32], data: &mut [u32], ram: &mut [u8], lent: State, allowed: u64) -> Ran {

@@ -3,7 +3,7 @@
 //! Every case has a text form that `--case` reads back.
 
 use crate::case::{numbers, second_screen, Fill};
-use crate::rng::Rng;
+use kit::rng::Rng;
 use merikohin::{Screen, State, Tree};
 use second::machine::{Leaf, DATA_WORDS};
 use std::collections::BTreeMap;
@@ -143,22 +143,22 @@ impl Case {
 // States, and the same in the second program's words.
 // ---------------------------------------------------------------------------
 
-pub const NO_SCREEN: Screen = Screen { colour: 0, depth: 0, size: 0 };
+pub const NO_SCREEN: Screen = Screen { colour_start: 0, depth_start: 0, size_number: 0 };
 
 pub const NO_TREE: Tree =
-    Tree { column: 0, row: 0, inside: [0; 16], outside: [0; 16], colour: [0; 16], depth: [0; 16], held: 0 };
+    Tree { column: 0, row: 0, inside: [0; 16], outside: [0; 16], colour: [0; 16], depth: [0; 16], has_depth: 0 };
 
 /// 01, Halts: "A fresh state has place 0, registers 0, flags clear, no screen,
 /// no tree, halt 0."
 pub const FRESH: State = State {
-    regs: [0; 32],
+    registers: [0; 32],
     place: 0,
     negative: 0,
     zero: 0,
     halt: 0,
-    shown: 0,
+    has_screen: 0,
     screen: NO_SCREEN,
-    planted: 0,
+    has_tree: 0,
     tree: NO_TREE,
 };
 
@@ -166,17 +166,17 @@ pub const FRESH: State = State {
 pub fn with_regs(set: &[(u32, u32)]) -> State {
     let mut state = FRESH;
     set.iter().filter(|(register, _)| *register != 0).for_each(|&(register, value)| {
-        state.regs[register as usize] = value;
+        state.registers[register as usize] = value;
     });
     state
 }
 
 pub fn with_screen(state: State, screen: Screen) -> State {
-    State { shown: 1, screen, ..state }
+    State { has_screen: 1, screen, ..state }
 }
 
 pub fn with_tree(state: State, tree: Tree) -> State {
-    State { planted: 1, tree, ..state }
+    State { has_tree: 1, tree, ..state }
 }
 
 /// What a state means: 0 is no and anything else yes; a screen, a tree and a
@@ -186,16 +186,16 @@ pub fn second_state(s: &State) -> second::machine::State {
         inside: s.tree.inside[k] != 0,
         outside: s.tree.outside[k] != 0,
         colour: s.tree.colour[k],
-        depth: (s.tree.held != 0).then_some(s.tree.depth[k]),
+        depth: (s.tree.has_depth != 0).then_some(s.tree.depth[k]),
     };
     let tree = second::machine::Tree { column: s.tree.column, row: s.tree.row, leaves: std::array::from_fn(leaf) };
     second::machine::State {
-        registers: s.regs,
+        registers: s.registers,
         place: s.place,
         negative: s.negative != 0,
         zero: s.zero != 0,
-        screen: (s.shown != 0).then_some(second_screen(s.screen)),
-        tree: (s.planted != 0).then_some(tree),
+        screen: (s.has_screen != 0).then_some(second_screen(s.screen)),
+        tree: (s.has_tree != 0).then_some(tree),
         halt: s.halt,
     }
 }
@@ -203,7 +203,7 @@ pub fn second_state(s: &State) -> second::machine::State {
 /// The same as the C interface has it; what means nothing is 0.
 pub fn plain_state(s: &second::machine::State) -> State {
     let mut state = State {
-        regs: s.registers,
+        registers: s.registers,
         place: s.place,
         negative: u32::from(s.negative),
         zero: u32::from(s.zero),
@@ -211,7 +211,11 @@ pub fn plain_state(s: &second::machine::State) -> State {
         ..FRESH
     };
     if let Some(screen) = s.screen {
-        let screen = Screen { colour: screen.colour_start, depth: screen.depth_start, size: screen.size_number };
+        let screen = Screen {
+            colour_start: screen.colour_start,
+            depth_start: screen.depth_start,
+            size_number: screen.size_number,
+        };
         state = with_screen(state, screen);
     }
     if let Some(tree) = s.tree {
@@ -224,7 +228,7 @@ pub fn plain_state(s: &second::machine::State) -> State {
                 outside: tree.leaves.map(|leaf| u8::from(leaf.outside)),
                 colour: tree.leaves.map(|leaf| leaf.colour),
                 depth: tree.leaves.map(|leaf| leaf.depth.unwrap_or(0)),
-                held: u32::from(tree.leaves[0].depth.is_some()),
+                has_depth: u32::from(tree.leaves[0].depth.is_some()),
             },
         );
     }
@@ -233,9 +237,9 @@ pub fn plain_state(s: &second::machine::State) -> State {
 
 /// Whether every yes and no of a state that a run led to is 1 or 0.
 pub fn plainly_answered(s: &State) -> bool {
-    let flags = [s.negative, s.zero, s.shown, s.planted].iter().all(|&n| n <= 1);
-    let marks = s.tree.inside.iter().chain(&s.tree.outside).all(|&n| n <= 1) && s.tree.held <= 1;
-    flags && (s.planted == 0 || marks)
+    let flags = [s.negative, s.zero, s.has_screen, s.has_tree].iter().all(|&n| n <= 1);
+    let marks = s.tree.inside.iter().chain(&s.tree.outside).all(|&n| n <= 1) && s.tree.has_depth <= 1;
+    flags && (s.has_tree == 0 || marks)
 }
 
 // ---------------------------------------------------------------------------
@@ -293,7 +297,7 @@ impl fmt::Display for Case {
             write!(f, " put={at}:{bytes}")?;
         }
         let s = &self.state;
-        for (k, value) in s.regs.iter().enumerate().filter(|(_, value)| **value != 0) {
+        for (k, value) in s.registers.iter().enumerate().filter(|(_, value)| **value != 0) {
             write!(f, " R{k}={value:x}")?;
         }
         let named = [
@@ -301,18 +305,18 @@ impl fmt::Display for Case {
             ("negative", s.negative),
             ("zero", s.zero),
             ("halt", s.halt),
-            ("shown", s.shown),
-            ("planted", s.planted),
+            ("has_screen", s.has_screen),
+            ("has_tree", s.has_tree),
         ];
         for (name, value) in named.iter().filter(|(_, value)| *value != 0) {
             write!(f, " {name}={value}")?;
         }
         if s.screen != NO_SCREEN {
-            write!(f, " screen={},{},{}", s.screen.colour, s.screen.depth, s.screen.size)?;
+            write!(f, " screen={},{},{}", s.screen.colour_start, s.screen.depth_start, s.screen.size_number)?;
         }
         let t = &s.tree;
-        if [t.column, t.row, t.held] != [0; 3] {
-            write!(f, " tree={},{},{}", t.column, t.row, t.held)?;
+        if [t.column, t.row, t.has_depth] != [0; 3] {
+            write!(f, " tree={},{},{}", t.column, t.row, t.has_depth)?;
         }
         for (name, marks) in [("inside", t.inside), ("outside", t.outside)] {
             if marks != [0; 16] {
@@ -391,15 +395,15 @@ impl std::str::FromStr for Case {
                 "negative" => s.negative = number()?,
                 "zero" => s.zero = number()?,
                 "halt" => s.halt = number()?,
-                "shown" => s.shown = number()?,
-                "planted" => s.planted = number()?,
+                "has_screen" => s.has_screen = number()?,
+                "has_tree" => s.has_tree = number()?,
                 "screen" => {
                     let n = numbers::<u32>(value, 3)?;
-                    s.screen = Screen { colour: n[0], depth: n[1], size: n[2] };
+                    s.screen = Screen { colour_start: n[0], depth_start: n[1], size_number: n[2] };
                 }
                 "tree" => {
                     let n = numbers::<u32>(value, 3)?;
-                    (s.tree.column, s.tree.row, s.tree.held) = (n[0], n[1], n[2]);
+                    (s.tree.column, s.tree.row, s.tree.has_depth) = (n[0], n[1], n[2]);
                 }
                 "inside" => s.tree.inside = sixteen(value)?,
                 "outside" => s.tree.outside = sixteen(value)?,
@@ -407,7 +411,7 @@ impl std::str::FromStr for Case {
                 "depth" => s.tree.depth = sixteen(value)?,
                 "run" => case.runs.push(numbers(value, 1)?[0]),
                 _ => match name.strip_prefix('R').and_then(|k| k.parse::<usize>().ok()) {
-                    Some(k) if k < 32 => s.regs[k] = hex(value)?,
+                    Some(k) if k < 32 => s.registers[k] = hex(value)?,
                     _ => return Err(format!("unknown: {word}")),
                 },
             }

@@ -3,9 +3,10 @@
 //! every byte of RAM after every run.
 
 use super::case::{plain_state, plainly_answered, second_state, Case};
-use super::words;
 use crate::subject::Subject;
-use merikohin::{Ran, State};
+use kit::words::Told;
+use merikohin::raw::Ran;
+use merikohin::State;
 use std::ops::Range;
 
 /// Words and bytes kept on both sides of what is lent to the subject; they must
@@ -129,7 +130,7 @@ pub fn check(subject: Subject, case: &Case, memories: &mut Memories) -> Checked 
         if second_state(&seen.state) != expected.state {
             text += &states_in_words(name, &seen.state, &plain_state(&expected.state));
         }
-        if seen.number != 0 && seen.state != state {
+        if seen.number != 0 && !seen.state.same_fields(&state) {
             text += &format!("  {name} refused the state, and answers not as it was given: {:?}\n", seen.state);
         }
         if seen.number == 0 && !plainly_answered(&seen.state) {
@@ -150,7 +151,7 @@ pub fn check(subject: Subject, case: &Case, memories: &mut Memories) -> Checked 
         }
         if !text.is_empty() {
             if let Some(&word) = case.program.get(expected_state.place as usize) {
-                text += &format!("  the run's first word is {}\n", words::in_words(word));
+                text += &format!("  the run's first word is {word:08x}: {}\n", Told(word));
             }
             return Checked { answers, difference: Some(Difference { run, text }) };
         }
@@ -168,29 +169,29 @@ fn states_in_words(name: &str, seen: &State, second: &State) -> String {
         }
     };
     for k in 0..32 {
-        say(format!("R{k}"), seen.regs[k], second.regs[k]);
+        say(format!("R{k}"), seen.registers[k], second.registers[k]);
     }
     say("place".into(), seen.place, second.place);
     say("negative".into(), seen.negative, second.negative);
     say("zero".into(), seen.zero, second.zero);
     say("halt".into(), seen.halt, second.halt);
-    say("shown".into(), seen.shown, second.shown);
-    if second.shown != 0 {
-        say("the screen's colour start".into(), seen.screen.colour, second.screen.colour);
-        say("the screen's depth start".into(), seen.screen.depth, second.screen.depth);
-        say("the screen's size number".into(), seen.screen.size, second.screen.size);
+    say("has_screen".into(), seen.has_screen, second.has_screen);
+    if second.has_screen != 0 {
+        say("the screen's colour start".into(), seen.screen.colour_start, second.screen.colour_start);
+        say("the screen's depth start".into(), seen.screen.depth_start, second.screen.depth_start);
+        say("the screen's size number".into(), seen.screen.size_number, second.screen.size_number);
     }
-    say("planted".into(), seen.planted, second.planted);
-    if second.planted != 0 {
+    say("has_tree".into(), seen.has_tree, second.has_tree);
+    if second.has_tree != 0 {
         let (a, b) = (&seen.tree, &second.tree);
         say("the tree's column".into(), a.column, b.column);
         say("the tree's row".into(), a.row, b.row);
-        say("held".into(), a.held, b.held);
+        say("has_depth".into(), a.has_depth, b.has_depth);
         for k in 0..16 {
             say(format!("leaf {k}'s mark I"), a.inside[k].into(), b.inside[k].into());
             say(format!("leaf {k}'s mark O"), a.outside[k].into(), b.outside[k].into());
             say(format!("leaf {k}'s colour"), a.colour[k].into(), b.colour[k].into());
-            if second.tree.held != 0 {
+            if second.tree.has_depth != 0 {
                 say(format!("leaf {k}'s depth"), a.depth[k].into(), b.depth[k].into());
             }
         }

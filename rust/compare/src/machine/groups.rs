@@ -2,13 +2,14 @@
 
 use super::case::{mixed_word, second_state, with_regs, with_screen, with_tree, Case, DataFill, EXTREMES, FRESH};
 use super::parts::{any_word, instruction, leaf_values, mark, register, screen_in, state_in, tree_on, yes};
-use super::words::{idle, rri, rrr, to};
 use super::{long, samples, states};
 use crate::case::Fill;
 use crate::groups::{area, size, tight};
-use crate::rng::Rng;
 use crate::run::Run;
-use merikohin::{Ran, Screen, State};
+use kit::rng::Rng;
+use kit::words::{idle, rri, rrr, to};
+use merikohin::raw::Ran;
+use merikohin::{Screen, State};
 use second::machine::*;
 
 pub fn all(run: &mut Run) {
@@ -69,7 +70,7 @@ fn result(run: &mut Run, rng: &mut Rng, word: u32, regs: &[(u32, u32)], wanted: 
             let state = State { negative: flags & 1, zero: flags >> 1, ..with_regs(regs) };
             let case = step(rng, word, state);
             if let Some(ran) = wants(run, &case, 0) {
-                let seen = if target == 0 { wanted } else { ran.state.regs[3] };
+                let seen = if target == 0 { wanted } else { ran.state.registers[3] };
                 let flags = (u32::from(wanted >> 31 == 1), u32::from(wanted == 0));
                 run.holds(seen == wanted && (ran.state.negative, ran.state.zero) == flags, || {
                     format!(
@@ -116,7 +117,7 @@ fn table(run: &mut Run, rng: &mut Rng) {
         let case = case.with_words(0, &[a, a, a, a, b, b, b, b]);
         if let Some(ran) = wants(run, &case, 0) {
             let flags = (u32::from(wanted >> 31 == 1), u32::from(wanted == 0));
-            let seen = (ran.state.regs[3], (ran.state.negative, ran.state.zero));
+            let seen = (ran.state.registers[3], (ran.state.negative, ran.state.zero));
             run.holds(seen == (wanted, flags), || format!("{case}: answered {seen:?}, wanted {wanted}"));
         }
     }
@@ -126,10 +127,10 @@ fn table(run: &mut Run, rng: &mut Rng) {
 /// halt 0."
 fn fresh_state(run: &mut Run, rng: &mut Rng) {
     let fresh = run.subject.fresh();
-    run.holds(fresh.regs == [0; 32], || format!("the fresh registers are {:?}", fresh.regs));
+    run.holds(fresh.registers == [0; 32], || format!("the fresh registers are {:?}", fresh.registers));
     run.holds(fresh.place == 0, || format!("the fresh place is {}", fresh.place));
     run.holds((fresh.negative, fresh.zero) == (0, 0), || "a fresh flag is set".to_string());
-    run.holds((fresh.shown, fresh.planted) == (0, 0), || "a fresh state has a screen or a tree".to_string());
+    run.holds((fresh.has_screen, fresh.has_tree) == (0, 0), || "a fresh state has a screen or a tree".to_string());
     run.holds(fresh.halt == 0, || format!("the fresh halt number is {}", fresh.halt));
     // It runs as it should: nothing left of anything.
     run.machine_wants(&Case::one(Vec::new(), 0, rng.next(), fresh, 1), 0, Some(0), Some(12));
@@ -154,7 +155,8 @@ fn full_size(run: &mut Run, rng: &mut Rng) {
         rri(TREEVAL, 8, 9, 3),
         rrr(TREEPUT, 0, 0, 0),
     ];
-    let base = [(1, 0), (2, screen.depth), (3, 0x1234), (4, 0xfedc), (7, 0xffff), (8, 0x1234_5678), (9, 0x0001_0001)];
+    let base =
+        [(1, 0), (2, screen.depth_start), (3, 0x1234), (4, 0xfedc), (7, 0xffff), (8, 0x1234_5678), (9, 0x0001_0001)];
     let with = |column: u32, row: u32| {
         let mut regs = base.to_vec();
         regs.extend([(5, column), (6, row)]);
@@ -284,7 +286,7 @@ fn addresses(run: &mut Run, rng: &mut Rng) {
                 let base = address.wrapping_sub(imm as u32);
                 for (r1, r2) in [(3, 4), (0, 4), (4, 4)] {
                     let mut state = state_in(rng, 256);
-                    state.regs[4] = base;
+                    state.registers[4] = base;
                     wants(run, &step(rng, rri(opcode, r1, r2, imm), state), halt);
                 }
             }
@@ -325,7 +327,7 @@ fn dot_starts(run: &mut Run, rng: &mut Rng) {
             let halt = if first > 1020 || second > 1020 { 13 } else { 0 };
             for r1 in [0, 3, 4, 5] {
                 let mut state = state_in(rng, 256);
-                (state.regs[4], state.regs[5]) = (first, second);
+                (state.registers[4], state.registers[5]) = (first, second);
                 wants(run, &step(rng, rrr(DOT, r1, 4, 5), state), halt);
             }
         }
@@ -333,7 +335,7 @@ fn dot_starts(run: &mut Run, rng: &mut Rng) {
         let halt = if first > 1020 { 13 } else { 0 };
         for (r2, r3) in [(0, 4), (4, 0), (4, 4)] {
             let mut state = state_in(rng, 256);
-            state.regs[4] = first;
+            state.registers[4] = first;
             wants(run, &step(rng, rrr(DOT, 3, r2, r3), state), halt);
         }
         wants(run, &step(rng, rrr(DOT, 3, 0, 0), FRESH), 0);
@@ -373,15 +375,15 @@ fn transfers(run: &mut Run, rng: &mut Rng) {
             for &at in &list {
                 for data in data {
                     let mut state = state_in(rng, ram);
-                    (state.regs[4], state.regs[5]) = (data, at);
+                    (state.registers[4], state.registers[5]) = (data, at);
                     let word = rrr(opcode, 4, 5, 0) | rng.next() as u32 & 0xffff;
                     wants(run, &Case::one(vec![word], ram, rng.next(), state, 1), halt(data, at, ram));
                 }
                 // One register for both, and R0 for one or both.
                 for (r1, r2) in [(5, 5), (0, 5), (5, 0), (0, 0)] {
                     let mut state = state_in(rng, ram);
-                    state.regs[5] = at;
-                    let (data, from) = (state.regs[r1 as usize], state.regs[r2 as usize]);
+                    state.registers[5] = at;
+                    let (data, from) = (state.registers[r1 as usize], state.registers[r2 as usize]);
                     let case = Case::one(vec![rrr(opcode, r1, r2, 9)], ram, rng.next(), state, 1);
                     wants(run, &case, halt(data, from, ram));
                 }
@@ -432,11 +434,11 @@ fn screens(run: &mut Run, rng: &mut Rng) {
                     state = with_tree(with_screen(state, screen), tree_on(rng, screen));
                 }
             }
-            (state.regs[1], state.regs[2]) = (asked.colour, asked.depth);
-            let case = Case::one(vec![rri(SCRSET, 1, 2, i64::from(asked.size))], ram, rng.next(), state, 1);
+            (state.registers[1], state.registers[2]) = (asked.colour_start, asked.depth_start);
+            let case = Case::one(vec![rri(SCRSET, 1, 2, i64::from(asked.size_number))], ram, rng.next(), state, 1);
             if let Some(ran) = wants(run, &case, if sound { 0 } else { 17 }) {
                 let holds = if sound {
-                    (ran.state.shown, ran.state.screen, ran.state.planted) == (1, asked, 0)
+                    (ran.state.has_screen, ran.state.screen, ran.state.has_tree) == (1, asked, 0)
                 } else {
                     let mut same = second_state(&state);
                     same.halt = 17;
@@ -451,8 +453,8 @@ fn screens(run: &mut Run, rng: &mut Rng) {
         for height in [0u32, 1, 2, 479, 480, 481, 511] {
             let s = size(groups, height);
             let fits = (1..=40).contains(&groups) && (1..=480).contains(&height);
-            set(run, rng, 1_400_000, Screen { colour: 0, depth: 700_000, size: s }, fits);
-            set(run, rng, 128, Screen { colour: 0, depth: 64, size: s }, fits && area(s) <= 64);
+            set(run, rng, 1_400_000, Screen { colour_start: 0, depth_start: 700_000, size_number: s }, fits);
+            set(run, rng, 128, Screen { colour_start: 0, depth_start: 64, size_number: s }, fits && area(s) <= 64);
         }
     }
     // Starts and RAM lengths around both areas.
@@ -467,7 +469,13 @@ fn screens(run: &mut Run, rng: &mut Rng) {
                 for &depth in &starts {
                     let fits = |start: u32| start % 2 == 0 && u64::from(start) + u64::from(a) <= ram as u64;
                     let apart = colour.abs_diff(depth) >= a;
-                    set(run, rng, ram, Screen { colour, depth, size: s }, fits(colour) && fits(depth) && apart);
+                    set(
+                        run,
+                        rng,
+                        ram,
+                        Screen { colour_start: colour, depth_start: depth, size_number: s },
+                        fits(colour) && fits(depth) && apart,
+                    );
                 }
             }
         }
@@ -481,7 +489,7 @@ fn screens(run: &mut Run, rng: &mut Rng) {
         (0, ram - a + 2, false),
         (ram - a, ram - 2 * a + 2, false),
     ] {
-        set(run, rng, ram as usize, Screen { colour, depth, size: 20960 }, fits);
+        set(run, rng, ram as usize, Screen { colour_start: colour, depth_start: depth, size_number: 20960 }, fits);
     }
     // The same register for both starts.
     for value in [0, 32, 64] {
@@ -502,7 +510,7 @@ fn clears(run: &mut Run, rng: &mut Rng) {
         let ram = rng.pick(&[64usize, 65, 128, 200, 256, 1000, 4000]);
         let mut state = state_in(rng, ram);
         let word = instruction(rng, CLS, &mut state, ram);
-        let halt = if state.shown == 0 { 17 } else { 0 };
+        let halt = if state.has_screen == 0 { 17 } else { 0 };
         wants(run, &Case::one(vec![word], ram, rng.next(), state, 1), halt);
     }
     for (colour, depth) in [(0x1234_5678, 0x9abc_def0), (0xffff_0000, 0x0000_ffff), (u32::MAX, 0), (1 << 16, 1 << 31)] {
@@ -542,11 +550,11 @@ fn tree_places(run: &mut Run, rng: &mut Rng) {
                 let fits = column % 16 == 0 && column < w && row < height;
                 let ram = if big { ram } else { ram + (rng.next() % 3) as usize };
                 let state = with_screen(state_in(rng, if big { 0 } else { ram }), screen);
-                let mut state = State { planted: 0, ..state };
+                let mut state = State { has_tree: 0, ..state };
                 if rng.chance(2) {
                     state = with_tree(state, tree_on(rng, screen));
                 }
-                (state.regs[1], state.regs[2], state.regs[3]) = (column, row, rng.next() as u32);
+                (state.registers[1], state.registers[2], state.registers[3]) = (column, row, rng.next() as u32);
                 let mut case = Case::one(vec![rrr(TREESET, 1, 2, 3)], ram, rng.next(), state, 1);
                 if big {
                     case.fill = Fill::Byte(0x5a);
@@ -566,8 +574,8 @@ fn tree_places(run: &mut Run, rng: &mut Rng) {
             let tree = ran.state.tree;
             let bits: [u8; 16] = std::array::from_fn(|k| (mask >> (15 - k) & 1) as u8);
             let holds = tree.inside == bits && tree.outside == bits.map(|bit| 1 - bit);
-            let holds = holds && tree.colour == [0; 16] && (tree.held, tree.column, tree.row) == (0, 0, 3);
-            run.holds(holds && ran.state.planted == 1, || format!("{case}: answered {:?}", ran.state));
+            let holds = holds && tree.colour == [0; 16] && (tree.has_depth, tree.column, tree.row) == (0, 0, 3);
+            run.holds(holds && ran.state.has_tree == 1, || format!("{case}: answered {:?}", ran.state));
         }
     }
     // One register for column and row, or for all three; R0 for each.
@@ -589,7 +597,7 @@ fn tree_uses(run: &mut Run, rng: &mut Rng) {
                 continue;
             }
             for _ in 0..40 {
-                let mut state = State { shown: 0, planted: 0, ..state_in(rng, 256) };
+                let mut state = State { has_screen: 0, has_tree: 0, ..state_in(rng, 256) };
                 if shown {
                     state = with_screen(state, screen_in(rng, 256).expect("one fits"));
                 }
@@ -612,8 +620,8 @@ fn tree_uses(run: &mut Run, rng: &mut Rng) {
     for opcode in [TREEIN, TREEVAL, TREEPUT] {
         let screen = small_screen();
         let mut state = with_tree(with_screen(FRESH, screen), tree_on(rng, screen));
-        (state.regs[1], state.regs[2]) = (screen.colour, screen.depth);
-        let program = vec![rri(SCRSET, 1, 2, i64::from(screen.size)), rrr(opcode, 3, 4, 0)];
+        (state.registers[1], state.registers[2]) = (screen.colour_start, screen.depth_start);
+        let program = vec![rri(SCRSET, 1, 2, i64::from(screen.size_number)), rrr(opcode, 3, 4, 0)];
         run.machine_wants(&Case::one(program, 256, rng.next(), state, 9), 0, Some(1), Some(14));
         // A CLS, a READ and a WRITE do not.
         for other in [rrr(CLS, 3, 4, 0), rrr(READ, 0, 0, 0), rrr(WRITE, 0, 0, 0)] {
@@ -626,16 +634,16 @@ fn tree_uses(run: &mut Run, rng: &mut Rng) {
 /// "The first row that applies wins. A halting step changes only the halt
 /// number and is not counted."
 fn several_halts(run: &mut Run, rng: &mut Rng) {
-    let nothing = |rng: &mut Rng| State { shown: 0, planted: 0, ..state_in(rng, 256) };
+    let nothing = |rng: &mut Rng| State { has_screen: 0, has_tree: 0, ..state_in(rng, 256) };
     for _ in 0..50 {
         // 15 before 16.
         for opcode in [READ, WRITE] {
             for data in [1009, 1024, u32::MAX] {
                 for at in [1, 2, 196, 256, u32::MAX, u32::MAX - 3, 0u32.wrapping_sub(64)] {
                     let mut state = nothing(rng);
-                    (state.regs[1], state.regs[2]) = (data, at);
+                    (state.registers[1], state.registers[2]) = (data, at);
                     wants(run, &step(rng, rrr(opcode, 1, 2, 0), state), 15);
-                    state.regs[1] = 1008;
+                    state.registers[1] = 1008;
                     wants(run, &step(rng, rrr(opcode, 1, 2, 0), state), 16);
                 }
             }
@@ -643,7 +651,7 @@ fn several_halts(run: &mut Run, rng: &mut Rng) {
         // 17 before 14: no screen, whatever the place.
         for (column, row) in [(0, 0), (1, 0), (0, 480), (640, 480), (u32::MAX, u32::MAX)] {
             let mut state = nothing(rng);
-            (state.regs[1], state.regs[2]) = (column, row);
+            (state.registers[1], state.registers[2]) = (column, row);
             wants(run, &step(rng, rrr(TREESET, 1, 2, 3), state), 17);
         }
         // No tree and an imm above 3.
@@ -652,7 +660,7 @@ fn several_halts(run: &mut Run, rng: &mut Rng) {
         wants(run, &step(rng, rri(TREEVAL, 1, 2, -1), state), 14);
         // Column and row refused.
         let mut state = with_screen(nothing(rng), small_screen());
-        (state.regs[1], state.regs[2]) = (16, 4);
+        (state.registers[1], state.registers[2]) = (16, 4);
         wants(run, &step(rng, rrr(TREESET, 1, 2, 3), state), 14);
         // 12 before all: there is no word at the place.
         let word = rng.next() as u32;
@@ -780,7 +788,7 @@ fn shifts(run: &mut Run, rng: &mut Rng) {
 
 fn shifted(run: &mut Run, case: &Case, wanted: u32) {
     if let Some(ran) = wants(run, case, 0) {
-        let seen = ran.state.regs[3];
+        let seen = ran.state.registers[3];
         run.holds(seen == wanted, || format!("{case}: wanted {wanted:x}, answered {seen:x}"));
     }
 }
@@ -798,7 +806,7 @@ fn same_registers(run: &mut Run, rng: &mut Rng) {
                 // Small numbers fit every address.
                 for k in [1, 2, 31] {
                     let any = mixed_word(rng);
-                    state.regs[k] = rng.pick(&[0, 4, 64, 128, 192, any]);
+                    state.registers[k] = rng.pick(&[0, 4, 64, 128, 192, any]);
                 }
                 let uses_imm = matches!(opcode, LD | ST | LI | LSLI..=JGEL | SCRSET | TREEVAL);
                 let word = if uses_imm {
@@ -808,7 +816,7 @@ fn same_registers(run: &mut Run, rng: &mut Rng) {
                     rrr(opcode, n1, n2, n3) | rng.next() as u32 & 0x7ff
                 };
                 if let Some(answers) = run.machine(&step(rng, word, state)) {
-                    run.holds(answers[0].state.regs[0] == 0, || format!("R0 after {word:08x} is not 0"));
+                    run.holds(answers[0].state.registers[0] == 0, || format!("R0 after {word:08x} is not 0"));
                 }
             }
         }
@@ -837,7 +845,7 @@ fn jumps(run: &mut Run, rng: &mut Rng) {
                     let mut state = state_in(rng, 64);
                     state.negative = if negative { yes(rng) } else { 0 };
                     state.zero = if zero { yes(rng) } else { 0 };
-                    state.regs[1] = target.wrapping_sub(imm as u32);
+                    state.registers[1] = target.wrapping_sub(imm as u32);
                     state.place = rng.between(0, 3) as u32;
                     let place = state.place;
                     let word = rri(opcode, rng.between(0, 31) as u32, 1, imm);
@@ -882,12 +890,12 @@ fn calls(run: &mut Run, rng: &mut Rng) {
                 for imm in [0i64, 1, -1, 1000] {
                     let mut state = state_in(rng, 64);
                     state.place = place;
-                    state.regs[base as usize] = if base == 0 { 0 } else { value };
-                    let address = state.regs[base as usize].wrapping_add(imm as u32);
+                    state.registers[base as usize] = if base == 0 { 0 } else { value };
+                    let address = state.registers[base as usize].wrapping_add(imm as u32);
                     let word = rri(CALL, rng.between(0, 31) as u32, base, imm);
                     let case = Case::one(vec![word; 1024], 64, rng.next(), state, 1);
                     if let Some(ran) = wants(run, &case, 0) {
-                        let seen = (ran.state.place, ran.state.regs[31]);
+                        let seen = (ran.state.place, ran.state.registers[31]);
                         run.holds(seen == (address, place + 1), || format!("{case}: place and R31 are {seen:?}"));
                     }
                 }
@@ -910,7 +918,7 @@ fn calls(run: &mut Run, rng: &mut Rng) {
     ];
     let case = Case::one(program, 0, rng.next(), FRESH, 100);
     if let Some(ran) = run.machine_wants(&case, 0, Some(15), Some(12)) {
-        let seen = (ran.state.regs[1], ran.state.regs[2], ran.state.regs[3], ran.state.regs[31]);
+        let seen = (ran.state.registers[1], ran.state.registers[2], ran.state.registers[3], ran.state.registers[31]);
         run.holds(seen == (3, 3, u32::MAX, 3), || format!("three calls left {seen:?}"));
     }
 }
@@ -932,14 +940,14 @@ fn marks(run: &mut Run, rng: &mut Rng) {
         }
         let (r1, r2) = rng.pick(&[(1, 2), (1, 2), (1, 2), (1, 1), (0, 2), (1, 0), (0, 0), (31, 30)]);
         let mut state = with_tree(with_screen(state_in(rng, 256), screen), tree);
-        state.regs[r2] = by;
-        state.regs[r1] = value;
-        state.regs[0] = 0;
-        let (value, by) = (state.regs[r1], state.regs[r2]);
+        state.registers[r2] = by;
+        state.registers[r1] = value;
+        state.registers[0] = 0;
+        let (value, by) = (state.registers[r1], state.registers[r2]);
         let word = rrr(TREEIN, r1 as u32, r2 as u32, 0) | rng.next() as u32 & 0xffff;
         let case = step(rng, word, state);
         if let Some(ran) = wants(run, &case, 0) {
-            let mut holds = r1 == 0 || ran.state.regs[r1] == value.wrapping_add(by.wrapping_mul(16));
+            let mut holds = r1 == 0 || ran.state.registers[r1] == value.wrapping_add(by.wrapping_mul(16));
             for k in 0..16 {
                 let leaf = value.wrapping_add(by.wrapping_mul(k as u32)) as i32;
                 let inside = tree.inside[k] != 0 && leaf <= 0;
@@ -954,7 +962,7 @@ fn marks(run: &mut Run, rng: &mut Rng) {
     for turn in 0..2000 {
         let (screen, ram) = tight(size(2, 3));
         let mut tree = tree_on(rng, screen);
-        tree.held = if turn % 2 == 0 { yes(rng) } else { 0 };
+        tree.has_depth = if turn % 2 == 0 { yes(rng) } else { 0 };
         let state = with_tree(with_screen(state_in(rng, 0), screen), tree);
         let word = TREEPUT << 26 | rng.next() as u32 & 0x03ff_ffff;
         let case = Case::one(vec![word], ram, rng.next(), state, 1);
@@ -964,8 +972,8 @@ fn marks(run: &mut Run, rng: &mut Rng) {
             if tree.inside[k] != 0 || tree.outside[k] == 0 {
                 let at = ((tree.row * 32 + tree.column) as usize + k) * 2;
                 wanted[at..at + 2].copy_from_slice(&tree.colour[k].to_be_bytes());
-                if tree.held != 0 {
-                    let at = at + screen.depth as usize;
+                if tree.has_depth != 0 {
+                    let at = at + screen.depth_start as usize;
                     wanted[at..at + 2].copy_from_slice(&tree.depth[k].to_be_bytes());
                 }
             }
@@ -998,27 +1006,31 @@ fn leaves(run: &mut Run, rng: &mut Rng) {
         let (r1, r2) = rng.pick(&[(1, 2), (1, 2), (1, 2), (1, 1), (0, 2), (1, 0)]);
         let tree = tree_on(rng, screen);
         let mut state = with_tree(with_screen(state_in(rng, 0), screen), tree);
-        state.regs[r2] = by;
-        state.regs[r1] = value;
-        state.regs[0] = 0;
-        let (value, by) = (state.regs[r1], state.regs[r2]);
+        state.registers[r2] = by;
+        state.registers[r1] = value;
+        state.registers[0] = 0;
+        let (value, by) = (state.registers[r1], state.registers[r2]);
         let case = Case::one(vec![rri(TREEVAL, r1 as u32, r2 as u32, imm)], ram, rng.next(), state, 1);
         let mut before = Vec::new();
         case.ram_at_first(&mut before);
         if let Some(ran) = wants(run, &case, 0) {
             let seen = ran.state.tree;
-            let mut holds = r1 == 0 || ran.state.regs[r1] == value.wrapping_add(by.wrapping_mul(16));
+            let mut holds = r1 == 0 || ran.state.registers[r1] == value.wrapping_add(by.wrapping_mul(16));
             for k in 0..16 {
                 let top = (value.wrapping_add(by.wrapping_mul(k as u32)) >> 16) as u16;
                 let colour = tree.colour[k];
                 holds &= match imm {
                     0 => {
-                        let at = screen.depth as usize + ((tree.row * groups * 16 + tree.column) as usize + k) * 2;
+                        let at =
+                            screen.depth_start as usize + ((tree.row * groups * 16 + tree.column) as usize + k) * 2;
                         let stored = u16::from_be_bytes([before[at], before[at + 1]]);
                         let inside = tree.inside[k] != 0 && top <= stored;
                         let outside = tree.outside[k] != 0 || top > stored;
                         let marks = (seen.inside[k] != 0, seen.outside[k] != 0);
-                        seen.held == 1 && seen.depth[k] == top && marks == (inside, outside) && seen.colour[k] == colour
+                        seen.has_depth == 1
+                            && seen.depth[k] == top
+                            && marks == (inside, outside)
+                            && seen.colour[k] == colour
                     }
                     1 => seen.colour[k] == colour & 0x07ff | (top & 31) << 11,
                     2 => seen.colour[k] == colour & 0xf81f | (top & 63) << 5,
@@ -1169,7 +1181,7 @@ fn short_program(rng: &mut Rng) -> Case {
     // Small numbers everywhere make more steps fit.
     for k in 1..32 {
         if rng.chance(2) {
-            state.regs[k] = rng.pick(&[0, 4, 16, 64, 128, 192, 500, 1000]);
+            state.registers[k] = rng.pick(&[0, 4, 16, 64, 128, 192, 500, 1000]);
         }
     }
     let length = rng.between(1, 24);

@@ -6,11 +6,11 @@
 
 use super::case::{mixed_word, second_state, Case, FRESH};
 use super::parts::{any_word, screen_in, tree_on};
-use super::words::{fields, Program};
 use crate::groups::{area, size};
 use crate::random::sound_screen;
-use crate::rng::Rng;
 use crate::run::Run;
+use kit::rng::Rng;
+use kit::words::{fields, Program};
 use merikohin::{Screen, State};
 use second::machine::*;
 use std::time::{Duration, Instant};
@@ -82,7 +82,7 @@ impl Maker<'_> {
     fn rrr(&mut self, opcode: u32, r1: u32, r2: u32, r3: u32) {
         // Bits that are not used are anything.
         let low = self.rng.next() as u32 & 0x7ff;
-        self.program.add(super::words::rrr(opcode, r1, r2, r3) | low);
+        self.program.add(kit::words::rrr(opcode, r1, r2, r3) | low);
         self.steps += 1;
     }
 
@@ -148,7 +148,7 @@ impl Maker<'_> {
     fn screen(&mut self) {
         let which = self.rng.pick(&[0, 0, 1]);
         let (colour, depth) = SCREENS[which];
-        self.rri(SCRSET, colour, depth, i64::from(self.screens[which].size));
+        self.rri(SCRSET, colour, depth, i64::from(self.screens[which].size_number));
     }
 
     fn clear(&mut self) {
@@ -340,7 +340,7 @@ pub fn program(rng: &mut Rng) -> Long {
         (ALL_LEAVES, u32::MAX),
     ];
     for (screen, (colour, depth)) in screens.iter().zip(SCREENS) {
-        constants.extend([(colour, screen.colour), (depth, screen.depth)]);
+        constants.extend([(colour, screen.colour_start), (depth, screen.depth_start)]);
     }
 
     // In half of them one instruction among a few hundred is anything at all.
@@ -362,11 +362,11 @@ pub fn program(rng: &mut Rng) -> Long {
         maker.rri(SCRSET, SCREENS[0].0, SCREENS[0].1, i64::from(first));
         maker.rrr(TREESET, 0, 0, ALL_LEAVES);
     } else {
-        (FREE.0..=FREE.1).for_each(|register| state.regs[register as usize] = mixed_word(maker.rng));
-        constants.iter().for_each(|&(register, value)| state.regs[register as usize] = value);
+        (FREE.0..=FREE.1).for_each(|register| state.registers[register as usize] = mixed_word(maker.rng));
+        constants.iter().for_each(|&(register, value)| state.registers[register as usize] = value);
         let screen = screens[0];
         let tree = tree_on(maker.rng, screen);
-        state = State { shown: 1, screen, planted: 1, tree, ..state };
+        state = State { has_screen: 1, screen, has_tree: 1, tree, ..state };
     }
     maker.routines = (0..maker.rng.between(1, 3)).map(|_| maker.program.mark()).collect();
 

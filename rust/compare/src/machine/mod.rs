@@ -10,6 +10,5 @@ mod parts;
 mod samples;
 mod shrink;
 mod states;
-mod words;
 
 pub use shrink::shrink;

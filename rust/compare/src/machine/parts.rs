@@ -1,10 +1,10 @@
 //! Random registers, screens, trees, states and single instructions.
 
 use super::case::{mixed_word, with_screen, with_tree, EXTREMES, FRESH};
-use super::words::fields;
 use crate::groups::area;
 use crate::random::{random_size, sound_screen};
-use crate::rng::Rng;
+use kit::rng::Rng;
+use kit::words::fields;
 use merikohin::{Screen, State, Tree};
 use second::machine::{ASRI, DOT, JGEL, JMP, LD, LI, LSLI, READ, SCRSET, ST, TREESET, TREEVAL, WRITE};
 
@@ -39,7 +39,7 @@ pub fn screen_in(rng: &mut Rng, ram: usize) -> Option<Screen> {
 
 /// A column and row TREESET takes.
 pub fn place_on(rng: &mut Rng, screen: Screen) -> (u32, u32) {
-    let (groups, height) = (i64::from(screen.size / 512), i64::from(screen.size % 512));
+    let (groups, height) = (i64::from(screen.size_number / 512), i64::from(screen.size_number % 512));
     (16 * rng.between(0, groups - 1) as u32, rng.between(0, height - 1) as u32)
 }
 
@@ -53,27 +53,27 @@ pub fn tree_on(rng: &mut Rng, screen: Screen) -> Tree {
     let colour = [(); 16].map(|()| rng.next() as u16);
     let depth = [(); 16].map(|()| rng.next() as u16);
     let held = if rng.chance(2) { yes(rng) } else { 0 };
-    Tree { column, row, inside, outside, colour, depth, held }
+    Tree { column, row, inside, outside, colour, depth, has_depth: held }
 }
 
 /// A well-formed state for a RAM this long.
 pub fn state_in(rng: &mut Rng, ram: usize) -> State {
     let mut state = FRESH;
     for k in 1..32 {
-        state.regs[k] = mixed_word(rng);
+        state.registers[k] = mixed_word(rng);
     }
     state.negative = if rng.chance(2) { yes(rng) } else { 0 };
     state.zero = if rng.chance(2) { yes(rng) } else { 0 };
     // What means nothing is anything.
-    state.screen = Screen { colour: mixed_word(rng), depth: mixed_word(rng), size: mixed_word(rng) };
-    state.tree = tree_on(rng, Screen { colour: 0, depth: 0, size: 20960 });
+    state.screen = Screen { colour_start: mixed_word(rng), depth_start: mixed_word(rng), size_number: mixed_word(rng) };
+    state.tree = tree_on(rng, Screen { colour_start: 0, depth_start: 0, size_number: 20960 });
     if !rng.chance(5) {
         if let Some(screen) = screen_in(rng, ram) {
             state = with_screen(state, screen);
-            state.shown = yes(rng);
+            state.has_screen = yes(rng);
             if !rng.chance(4) {
                 state = with_tree(state, tree_on(rng, screen));
-                state.planted = yes(rng);
+                state.has_tree = yes(rng);
             }
         }
     }
@@ -101,7 +101,7 @@ pub fn instruction(rng: &mut Rng, opcode: u32, state: &mut State, ram: usize) ->
     let (_, n1, n2, n3, imm) = fields(word);
     let set = |state: &mut State, register: usize, value: u32| {
         if register != 0 {
-            state.regs[register] = value;
+            state.registers[register] = value;
         }
     };
     let edge = |rng: &mut Rng, high: i64| match rng.next() % 4 {
@@ -129,12 +129,12 @@ pub fn instruction(rng: &mut Rng, opcode: u32, state: &mut State, ram: usize) ->
         }
         SCRSET => {
             if let Some(screen) = screen_in(rng, ram) {
-                set(state, n1, screen.colour);
-                set(state, n2, screen.depth);
-                set_imm(&mut word, screen.size);
+                set(state, n1, screen.colour_start);
+                set(state, n2, screen.depth_start);
+                set_imm(&mut word, screen.size_number);
             }
         }
-        TREESET if state.shown != 0 => {
+        TREESET if state.has_screen != 0 => {
             let (column, row) = place_on(rng, state.screen);
             set(state, n1, column);
             set(state, n2, row);

@@ -3,12 +3,12 @@
 //! instruction, so that each ends with halt 12 past its last word.
 
 use super::case::{Case, FRESH};
-use super::words::{rri, Program};
-use crate::case::{plain, set_vertices, vertices};
+use crate::case::plain;
 use crate::groups::{area, size, tight, DEMONSTRATION};
 use crate::random;
-use crate::rng::Rng;
 use crate::run::Run;
+use kit::rng::Rng;
+use kit::words::{rri, Program};
 use merikohin::{Plane, Screen, Triangle};
 use second::machine::*;
 
@@ -61,7 +61,7 @@ pub fn matrix_times_vector(run: &mut Run, rng: &mut Rng) {
         let wanted: Vec<u32> =
             (0..4).map(|row| row_by_column(four(matrix as usize + 4 * row), four(vector as usize))).collect();
         if let Some(ran) = run.machine_wants(&case, 0, Some(9), Some(12)) {
-            let seen = &ran.state.regs[RESULT as usize..RESULT as usize + 4];
+            let seen = &ran.state.registers[RESULT as usize..RESULT as usize + 4];
             run.holds(seen == wanted, || format!("{case}: wanted {wanted:x?}, answered {seen:x?}"));
         }
     }
@@ -240,7 +240,8 @@ fn set_up(t: &Triangle, screen: Screen, corners: [u32; 4]) -> Vec<u32> {
         words[PLANES + 3 * k + 1] = b as u32;
         words[PLANES + 3 * k + 2] = at_corner(c.into(), a.into(), b.into());
     }
-    let v = [(t.x1, t.y1), (t.x2, t.y2), (t.x3, t.y3)].map(|(x, y)| (i64::from(x), i64::from(y)));
+    let v = [(t.vertices.x1, t.vertices.y1), (t.vertices.x2, t.vertices.y2), (t.vertices.x3, t.vertices.y3)]
+        .map(|(x, y)| (i64::from(x), i64::from(y)));
     for k in 0..3 {
         let (from, to) = (v[k], v[(k + 1) % 3]);
         let (dx, dy) = (to.0 - from.0, to.1 - from.1);
@@ -252,17 +253,17 @@ fn set_up(t: &Triangle, screen: Screen, corners: [u32; 4]) -> Vec<u32> {
         words[EDGE_START + k] = at_corner(c, a, b);
     }
     words[BOX..BOX + 4].copy_from_slice(&[min_x, max_x, min_y, max_y]);
-    words[SCREEN..].copy_from_slice(&[screen.colour, screen.depth]);
+    words[SCREEN..].copy_from_slice(&[screen.colour_start, screen.depth_start]);
     words
 }
 
 /// The box to visit: the whole screen, or no more than the triangle needs.
 fn box_of(rng: &mut Rng, t: &Triangle, screen: Screen) -> [u32; 4] {
-    let (width, height) = ((screen.size / 512 * 16) as i32, (screen.size % 512) as i32);
+    let (width, height) = ((screen.size_number / 512 * 16) as i32, (screen.size_number % 512) as i32);
     if rng.chance(3) {
         return [0, width as u32 - 1, 0, height as u32 - 1];
     }
-    let (x, y) = ([t.x1, t.x2, t.x3], [t.y1, t.y2, t.y3]);
+    let (x, y) = ([t.vertices.x1, t.vertices.x2, t.vertices.x3], [t.vertices.y1, t.vertices.y2, t.vertices.y3]);
     let least = |n: [i32; 3]| n[0].min(n[1]).min(n[2]) >> 3;
     let most = |n: [i32; 3]| n[0].max(n[1]).max(n[2]) >> 3;
     let left = least(x).clamp(0, width - 1) / 16 * 16;
@@ -280,7 +281,7 @@ fn loops_against_drawer(run: &mut Run, rng: &mut Rng, screen: Screen, ram: usize
     let mut steps = 0;
     for t in list {
         let corners = box_of(rng, t, screen);
-        add_loop(&mut program, screen.size, data.len());
+        add_loop(&mut program, screen.size_number, data.len());
         data.extend(set_up(t, screen, corners));
         steps += loop_steps(corners);
     }
@@ -308,13 +309,13 @@ fn loops_against_drawer(run: &mut Run, rng: &mut Rng, screen: Screen, ram: usize
 fn fitting_triangle(rng: &mut Rng, width: i64, height: i64, whole_pixels: bool) -> Triangle {
     loop {
         let mut t = random::triangle(rng, width, height);
-        let mut v = vertices(&t);
+        let mut v = t.vertices.numbers();
         if whole_pixels {
             // Many edges through sample points.
             v = v.map(|n| n & !7);
         }
         let v = random::turned_right(v);
-        set_vertices(&mut t, v);
+        t.vertices = v.into();
         if random::twice_area(v) >= 3 {
             return t;
         }
@@ -346,8 +347,8 @@ pub fn rasterization(run: &mut Run, rng: &mut Rng) {
     for turn in 0..4 {
         let mut t = fitting_triangle(rng, 640, 480, false);
         match turn {
-            0 => set_vertices(&mut t, [0, 0, 5120, 0, 0, 3840]),
-            1 => set_vertices(&mut t, [5120, 3840, 0, 3840, 5120, 0]),
+            0 => t.vertices = [0, 0, 5120, 0, 0, 3840].into(),
+            1 => t.vertices = [5120, 3840, 0, 3840, 5120, 0].into(),
             _ => {}
         }
         draw(run, rng, screen, ram, &[t]);
@@ -359,7 +360,7 @@ pub fn rasterization(run: &mut Run, rng: &mut Rng) {
     let t = Triangle { red: Plane { c: 7 << 16, a: 0, b: 0 }, ..plain([0, 0, 256, 0, 0, 32]) };
     let one_loop = |screen: Screen| {
         let mut program = Program::default();
-        add_loop(&mut program, screen.size, 0);
+        add_loop(&mut program, screen.size_number, 0);
         program
     };
     for (corners, steps) in [([0, 32, 0, 3], 22 + 8 + 2 * 12), ([0, 31, 0, 4], 22 + 4 * (8 + 2 * 12 + 17) + 8)] {
@@ -393,12 +394,12 @@ fn demonstration(run: &mut Run, rng: &mut Rng) {
     let corners = [0, 15, 0, 3];
     let mut program = Program::default();
     program.rri(LI, 1, 0, 128);
-    program.rri(SCRSET, 0, 1, i64::from(screen.size));
+    program.rri(SCRSET, 0, 1, i64::from(screen.size_number));
     program.rri(LI, 2, 0, -1);
     program.rrr(CLS, 0, 2, 0);
     let mut data = Vec::new();
     for t in &pair {
-        add_loop(&mut program, screen.size, data.len());
+        add_loop(&mut program, screen.size_number, data.len());
         data.extend(set_up(t, screen, corners));
     }
     let case = Case::one(program.done(), ram, rng.next(), FRESH, 1_000_000).with_words(0, &data);

@@ -3,10 +3,10 @@
 
 use super::case::{plain_state, second_state, Case, DataFill, NO_SCREEN, NO_TREE};
 use super::check::{check, Memories};
-use super::words::idle;
 use crate::case::Fill;
 use crate::shrink::smaller;
 use crate::subject::Subject;
+use kit::words::idle;
 use merikohin::{Screen, State};
 use std::time::{Duration, Instant};
 
@@ -96,11 +96,14 @@ fn cost(case: &Case) -> u128 {
         sum += u128::from(byte);
     }
     let s = &case.state;
-    sum += s.regs.iter().map(|&value| some(value != 0, 34) + u128::from(value)).sum::<u128>();
-    for value in [s.place, s.negative, s.zero, s.halt, s.shown, s.planted, s.tree.held, s.tree.column, s.tree.row] {
+    sum += s.registers.iter().map(|&value| some(value != 0, 34) + u128::from(value)).sum::<u128>();
+    for value in
+        [s.place, s.negative, s.zero, s.halt, s.has_screen, s.has_tree, s.tree.has_depth, s.tree.column, s.tree.row]
+    {
         sum += some(value != 0, 33) + u128::from(value);
     }
-    sum += u128::from(s.screen.colour) + u128::from(s.screen.depth) + (u128::from(s.screen.size) << 4);
+    sum +=
+        u128::from(s.screen.colour_start) + u128::from(s.screen.depth_start) + (u128::from(s.screen.size_number) << 4);
     sum += s.tree.inside.iter().chain(&s.tree.outside).map(|&mark| u128::from(mark)).sum::<u128>();
     sum += s.tree.colour.iter().chain(&s.tree.depth).map(|&half| u128::from(half)).sum::<u128>();
     sum
@@ -195,29 +198,29 @@ fn candidates(case: &Case) -> Vec<Case> {
     // A plainer state.
     let s = case.state;
     let mut push = |state: State| found.push(Case { state, ..case.clone() });
-    push(State { regs: [0; 32], ..s });
-    push(State { planted: 0, tree: NO_TREE, ..s });
-    push(State { shown: 0, screen: NO_SCREEN, planted: 0, tree: NO_TREE, ..s });
-    let bytes = s.screen.size / 512 * (s.screen.size % 512) * 32;
-    push(State { screen: Screen { colour: 0, depth: bytes, ..s.screen }, ..s });
-    for (groups, height) in [(1, 1), (s.screen.size / 512, 1), (1, s.screen.size % 512)] {
+    push(State { registers: [0; 32], ..s });
+    push(State { has_tree: 0, tree: NO_TREE, ..s });
+    push(State { has_screen: 0, screen: NO_SCREEN, has_tree: 0, tree: NO_TREE, ..s });
+    let bytes = s.screen.size_number / 512 * (s.screen.size_number % 512) * 32;
+    push(State { screen: Screen { colour_start: 0, depth_start: bytes, ..s.screen }, ..s });
+    for (groups, height) in [(1, 1), (s.screen.size_number / 512, 1), (1, s.screen.size_number % 512)] {
         let size = groups * 512 + height;
-        push(State { screen: Screen { colour: 0, depth: groups * height * 32, size }, ..s });
+        push(State { screen: Screen { colour_start: 0, depth_start: groups * height * 32, size_number: size }, ..s });
     }
     for k in 0..32 {
-        for value in smaller(i64::from(s.regs[k])) {
-            let mut regs = s.regs;
+        for value in smaller(i64::from(s.registers[k])) {
+            let mut regs = s.registers;
             regs[k] = value as u32;
-            push(State { regs, ..s });
+            push(State { registers: regs, ..s });
         }
     }
     for set in [0, 1] {
         push(State { negative: set, ..s });
         push(State { zero: set, ..s });
-        push(State { shown: set, ..s });
-        push(State { planted: set, ..s });
+        push(State { has_screen: set, ..s });
+        push(State { has_tree: set, ..s });
         let mut tree = s.tree;
-        tree.held = set;
+        tree.has_depth = set;
         push(State { tree, ..s });
     }
     push(State { halt: 0, ..s });

@@ -3,11 +3,11 @@
 
 use super::case::{second_state, with_regs, with_screen, with_tree, Case, FRESH, NO_TREE};
 use super::parts::{any_word, place_on, screen_in, state_in, tree_on, yes};
-use super::words::{rri, rrr, to};
 use crate::case::Fill;
 use crate::groups::{area, size, tight};
-use crate::rng::Rng;
 use crate::run::Run;
+use kit::rng::Rng;
+use kit::words::{rri, rrr, to};
 use merikohin::{Screen, State, Tree};
 use second::machine::{ADD, CLS, DATA_WORDS, JMP, ST, TREEPUT, WRITE};
 
@@ -28,7 +28,7 @@ fn busy(length: usize) -> Vec<u32> {
 /// with the second program).
 fn refused(run: &mut Run, case: &Case, number: u32) {
     if let Some(ran) = run.machine_wants(case, number, Some(0), None) {
-        run.holds(ran.state == case.state, || format!("{case}: refused, and the state is not as given"));
+        run.holds(ran.state.same_fields(&case.state), || format!("{case}: refused, and the state is not as given"));
     }
 }
 
@@ -93,9 +93,9 @@ fn given(rng: &mut Rng) -> Vec<Given> {
     // R0.
     for value in [1, 2, 255, 256, 65536, 1 << 31, u32::MAX] {
         let mut state = state_in(rng, 256);
-        state.regs[0] = value;
+        state.registers[0] = value;
         push(state, 256, false);
-        push(State { regs: [value; 32], ..FRESH }, 0, false);
+        push(State { registers: [value; 32], ..FRESH }, 0, false);
     }
     push(FRESH, 0, true);
 
@@ -151,13 +151,13 @@ fn given(rng: &mut Rng) -> Vec<Given> {
         }
         list.push((0, a, u32::MAX, exact, false));
         for (colour, depth, size, ram, well) in list {
-            let screen = Screen { colour, depth, size };
-            let no_screen = State { shown: 0, planted: 0, ..state_in(rng, 0) };
-            push(State { shown: yes(rng), screen, ..no_screen }, ram, well);
+            let screen = Screen { colour_start: colour, depth_start: depth, size_number: size };
+            let no_screen = State { has_screen: 0, has_tree: 0, ..state_in(rng, 0) };
+            push(State { has_screen: yes(rng), screen, ..no_screen }, ram, well);
             // The same fields where there is no screen mean nothing.
-            push(State { shown: 0, screen, ..no_screen }, ram, true);
+            push(State { has_screen: 0, screen, ..no_screen }, ram, true);
             // A tree at its first place is well where the screen is.
-            let tree = State { shown: 1, screen, planted: yes(rng), tree: NO_TREE, ..no_screen };
+            let tree = State { has_screen: 1, screen, has_tree: yes(rng), tree: NO_TREE, ..no_screen };
             push(tree, ram, well);
         }
     }
@@ -165,15 +165,19 @@ fn given(rng: &mut Rng) -> Vec<Given> {
     // A screen at the very end of the longest RAM.
     let (a, ram) = (area(20960), 4_194_304u32);
     for (colour, depth, well) in [(ram - a, ram - 2 * a, true), (ram - a + 2, 0, false), (0, ram - a + 2, false)] {
-        push(with_screen(FRESH, Screen { colour, depth, size: 20960 }), ram as usize, well);
+        push(
+            with_screen(FRESH, Screen { colour_start: colour, depth_start: depth, size_number: 20960 }),
+            ram as usize,
+            well,
+        );
     }
 
     // Trees without a screen, at any place.
     for (column, row) in [(0, 0), (16, 0), (1, 1), (u32::MAX, u32::MAX)] {
-        let state = State { shown: 0, ..state_in(rng, 256) };
+        let state = State { has_screen: 0, ..state_in(rng, 256) };
         let tree = Tree { column, row, ..tree_on(rng, tight(20960).0) };
-        push(State { planted: yes(rng), tree, ..state }, 256, false);
-        push(State { planted: 0, tree, ..state }, 256, true);
+        push(State { has_tree: yes(rng), tree, ..state }, 256, false);
+        push(State { has_tree: 0, tree, ..state }, 256, true);
     }
     // Tree places.
     for (groups, height) in [(1u32, 1u32), (1, 4), (2, 3), (40, 1)] {
@@ -199,7 +203,7 @@ fn given(rng: &mut Rng) -> Vec<Given> {
     for value in [1, 1 << 31, u32::MAX] {
         let mut regs = [value; 32];
         regs[0] = 0;
-        push(State { regs, negative: yes(rng), zero: yes(rng), ..FRESH }, 0, true);
+        push(State { registers: regs, negative: yes(rng), zero: yes(rng), ..FRESH }, 0, true);
     }
     for held in [0, 1, 2, 256, 1 << 31] {
         for marks in 0..4u8 {
@@ -211,7 +215,7 @@ fn given(rng: &mut Rng) -> Vec<Given> {
                     row,
                     inside: [(marks & 1) * form; 16],
                     outside: [(marks >> 1) * form; 16],
-                    held,
+                    has_depth: held,
                     ..tree_on(rng, screen)
                 };
                 push(with_tree(with_screen(state_in(rng, 0), screen), tree), 300, true);
@@ -262,24 +266,24 @@ pub fn states(run: &mut Run, rng: &mut Rng) {
 pub fn several(run: &mut Run, rng: &mut Rng) {
     let screen = tight(size(1, 4)).0;
     let bad_states = [
-        State { regs: [1; 32], ..FRESH },
+        State { registers: [1; 32], ..FRESH },
         State { halt: 18, ..FRESH },
         State { halt: 10, ..with_regs(&[(1, 5)]) },
-        with_screen(FRESH, Screen { size: 0, ..screen }),
-        with_screen(FRESH, Screen { colour: 1, ..screen }),
+        with_screen(FRESH, Screen { size_number: 0, ..screen }),
+        with_screen(FRESH, Screen { colour_start: 1, ..screen }),
         with_tree(FRESH, NO_TREE),
         with_tree(with_screen(FRESH, screen), Tree { column: 8, ..NO_TREE }),
         with_tree(with_screen(FRESH, screen), Tree { row: 4, ..NO_TREE }),
         // Everything at once.
         State {
-            regs: [u32::MAX; 32],
+            registers: [u32::MAX; 32],
             place: u32::MAX,
             negative: u32::MAX,
             zero: u32::MAX,
             halt: u32::MAX,
-            shown: u32::MAX,
-            screen: Screen { colour: u32::MAX, depth: u32::MAX, size: u32::MAX },
-            planted: u32::MAX,
+            has_screen: u32::MAX,
+            screen: Screen { colour_start: u32::MAX, depth_start: u32::MAX, size_number: u32::MAX },
+            has_tree: u32::MAX,
             tree: Tree {
                 column: u32::MAX,
                 row: u32::MAX,
@@ -287,7 +291,7 @@ pub fn several(run: &mut Run, rng: &mut Rng) {
                 outside: [u8::MAX; 16],
                 colour: [u16::MAX; 16],
                 depth: [u16::MAX; 16],
-                held: u32::MAX,
+                has_depth: u32::MAX,
             },
         },
     ];

@@ -17,6 +17,7 @@ impl Rng {
         Rng(state)
     }
 
+    #[allow(clippy::should_implement_trait)] // it never ends
     pub fn next(&mut self) -> u64 {
         self.0 = self.0.wrapping_add(0x9e37_79b9_7f4a_7c15);
         let mut z = self.0;
@@ -33,10 +34,30 @@ impl Rng {
     }
 
     pub fn chance(&mut self, one_in: u64) -> bool {
-        self.next().is_multiple_of(one_in)
+        self.next() % one_in == 0
     }
 
     pub fn pick<T: Copy>(&mut self, from: &[T]) -> T {
         from[(self.next() % from.len() as u64) as usize]
+    }
+}
+
+#[cfg(test)]
+mod tests {
+    use super::*;
+
+    /// The first numbers of splitmix64 from 1234567, as its author gives them.
+    #[test]
+    fn known_numbers() {
+        let mut rng = Rng::new(1_234_567);
+        assert_eq!([rng.next(), rng.next()], [6_457_827_717_110_365_317, 3_203_168_211_198_807_973]);
+    }
+
+    #[test]
+    fn ranges() {
+        let mut rng = Rng::for_group(1, "ranges");
+        let seen: Vec<i64> = (0..1000).map(|_| rng.between(-2, 2)).collect();
+        assert!((-2..=2).all(|n| seen.contains(&n)) && seen.iter().all(|n| (-2..=2).contains(n)));
+        assert_ne!(Rng::for_group(1, "a").next(), Rng::for_group(1, "b").next());
     }
 }

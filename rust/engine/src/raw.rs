@@ -1,0 +1,111 @@
+//! The calls as C has them: the number stands in the answer, 0 where nothing
+//! was refused. For whoever wants every field of every answer; the functions of
+//! the crate's root are made of these.
+
+use crate::{Screen, State, Triangle};
+
+/// The answer to a triangle: its number, pixels covered, pixels written.
+#[repr(C)]
+#[derive(Clone, Copy, Debug, PartialEq, Eq)]
+pub struct Drawn {
+    pub number: u32,
+    pub covered: u32,
+    pub written: u32,
+}
+
+/// The answer to a row, in places: the row's own bytes are
+/// `ram[start..start + length]`. Refused, both are 0.
+#[repr(C)]
+#[derive(Clone, Copy, Debug, PartialEq, Eq)]
+pub struct RowPart {
+    pub number: u32,
+    pub start: u64,
+    pub length: u64,
+}
+
+/// The answer to a run: its number, the steps carried out, and the state in
+/// which it stopped; refused, the state as given.
+#[repr(C)]
+#[derive(Clone, Copy, Debug, PartialEq, Eq)]
+pub struct Ran {
+    pub number: u32,
+    pub steps: u64,
+    pub state: State,
+}
+
+mod library {
+    use super::{Drawn, Ran, RowPart, Screen, State, Triangle};
+
+    #[link(name = "merikohin", kind = "static")]
+    extern "C" {
+        pub fn merikohin_clear(ram: *mut u8, ram_len: usize, s: Screen, colour: u16, depth: u16) -> u32;
+        pub fn merikohin_draw(ram: *mut u8, ram_len: usize, s: Screen, t: Triangle) -> Drawn;
+        pub fn merikohin_row_check(ram: *const u8, ram_len: usize, s: Screen, row: u32) -> u32;
+        pub fn merikohin_row(ram: *const u8, ram_len: usize, s: Screen, row: u32) -> RowPart;
+        pub fn merikohin_fresh() -> State;
+        pub fn merikohin_run(
+            program: *const u32,
+            program_len: usize,
+            memory: *mut u32,
+            memory_len: usize,
+            ram: *mut u8,
+            ram_len: usize,
+            state: State,
+            budget: u64,
+        ) -> Ran;
+    }
+}
+
+/// `merikohin_clear`: 0, 3 or 5.
+#[must_use]
+pub fn clear(ram: &mut [u8], screen: Screen, colour: u16, depth: u16) -> u32 {
+    // SAFETY: the slice is lent whole, for the length of the call.
+    unsafe { library::merikohin_clear(ram.as_mut_ptr(), ram.len(), screen, colour, depth) }
+}
+
+/// `merikohin_draw`: 0, 3, 5, 6 or 7.
+#[must_use]
+pub fn draw(ram: &mut [u8], screen: Screen, triangle: Triangle) -> Drawn {
+    // SAFETY: the slice is lent whole, for the length of the call.
+    unsafe { library::merikohin_draw(ram.as_mut_ptr(), ram.len(), screen, triangle) }
+}
+
+/// `merikohin_row_check`: 0, 3, 5 or 8.
+#[must_use]
+pub fn row_check(ram: &[u8], screen: Screen, row: u32) -> u32 {
+    // SAFETY: the slice is lent whole, for the length of the call.
+    unsafe { library::merikohin_row_check(ram.as_ptr(), ram.len(), screen, row) }
+}
+
+/// `merikohin_row`: 0, 3, 5 or 8.
+#[must_use]
+pub fn row(ram: &[u8], screen: Screen, row: u32) -> RowPart {
+    // SAFETY: the slice is lent whole, for the length of the call.
+    unsafe { library::merikohin_row(ram.as_ptr(), ram.len(), screen, row) }
+}
+
+/// `merikohin_fresh`.
+#[must_use]
+pub fn fresh() -> State {
+    // SAFETY: nothing is lent.
+    unsafe { library::merikohin_fresh() }
+}
+
+/// `merikohin_run`: 0, 1, 2, 3 or 4.
+#[must_use]
+pub fn run(program: &[u32], memory: &mut [u32], ram: &mut [u8], state: State, budget: u64) -> Ran {
+    // SAFETY: the three slices are lent whole, for the length of the call, and
+    // do not overlap; the program is only read.
+    unsafe {
+        library::merikohin_run(
+            program.as_ptr(),
+            program.len(),
+            memory.as_mut_ptr(),
+            memory.len(),
+            ram.as_mut_ptr(),
+            ram.len(),
+            state,
+            budget,
+        )
+    }
+}

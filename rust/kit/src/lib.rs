@@ -1,0 +1,8 @@
+//! What the tool, the pictures and the comparison share. Nothing here knows the
+//! engine.
+
+pub mod args;
+pub mod pixels;
+pub mod png;
+pub mod rng;
+pub mod words;

@@ -1,0 +1,39 @@
+//! A first program over the engine: it clears a small screen, draws the pair of
+//! triangles that share an edge and prints each pixel's colour as a digit.
+//!
+//!     rt staticlib merikohin
+//!     cd rust && cargo run --release --offline -p pair
+
+use merikohin::{Plane, Refusal, Screen, Triangle};
+
+fn main() -> Result<(), Refusal> {
+    // The engine has no memory of its own. Lend it any bytes, at every call.
+    let mut ram = [0; 256];
+
+    // A screen of 16 by 4 pixels in them. A pixel has two bytes of colour and
+    // two of depth, so the colours fill 128 bytes and the depths the rest.
+    let screen = Screen::new(0, 128, 16, 4);
+
+    // Every pixel gets colour 0 and the farthest depth. A call that is refused
+    // answers why, and changes nothing.
+    merikohin::clear(&mut ram, screen, 0, 65535)?;
+
+    // Vertices are in eighths of a pixel: 32 is four pixels. A plane has
+    // c + a·x + b·y at pixel (x, y), and blue is its bits 16 to 20. Planes left
+    // out are 0 everywhere: no red, no green, nearest depth.
+    for (blue, vertices) in [(1, [0, 0, 32, 0, 0, 32]), (2, [32, 32, 0, 32, 32, 0])] {
+        let blue = Plane { c: blue << 16, a: 0, b: 0 };
+        let drawn =
+            merikohin::draw(&mut ram, screen, Triangle { vertices: vertices.into(), blue, ..Triangle::default() })?;
+        eprintln!("covered {}, written {}", drawn.covered, drawn.written);
+    }
+
+    // A row is a part of `ram` and not a copy. Half-words are big-endian: the
+    // second byte of a colour is its low one.
+    for y in 0..4 {
+        let row = merikohin::row(&ram, screen, y)?;
+        let digits: String = row.chunks(2).map(|colour| char::from(b'0' + colour[1])).collect();
+        println!("{digits}");
+    }
+    Ok(())
+}

@@ -1,0 +1,113 @@
+/* What merikohin.h says and the library does, by C11 and by C++: constants, size
+ * numbers, sentences, NULL with length 0, any address, fields without meaning.
+ * The status is 0 where all holds; else each line that failed is printed.
+ */
+#include "merikohin.h"
+
+#include <stdio.h>
+#include <string.h>
+
+static int failed;
+
+static void check(int holds, int line)
+{
+    if (!holds) {
+        printf("tests/header.c, line %d\n", line);
+        failed = 1;
+    }
+}
+#define HOLDS(what) check((what), __LINE__)
+
+static merikohin_screen screen_of(uint32_t colour_start, uint32_t depth_start, uint32_t size_number)
+{
+    merikohin_screen s;
+    s.colour_start = colour_start, s.depth_start = depth_start, s.size_number = size_number;
+    return s;
+}
+
+static void constants(void)
+{
+    HOLDS(MERIKOHIN_SIZE(640, 480) == 20960);
+    HOLDS(MERIKOHIN_SIZE(16, 1) == 513);
+    HOLDS(MERIKOHIN_SIZE(24, 1) == 0);
+    HOLDS(MERIKOHIN_SIZE(0, 1) == 0);
+    HOLDS(MERIKOHIN_SIZE(656, 1) == 0);
+    HOLDS(MERIKOHIN_SIZE(16, 0) == 0);
+    HOLDS(MERIKOHIN_SIZE(16, 481) == 0);
+    HOLDS(MERIKOHIN_SIZE(-16, 4) == 0);
+    HOLDS(MERIKOHIN_SIZE(16u, (uint8_t)4) == 516);
+    HOLDS(MERIKOHIN_TREEPUT == 40);
+    char version[16];
+    snprintf(version, sizeof version, "%d.%d.%d", MERIKOHIN_VERSION_MAJOR, MERIKOHIN_VERSION_MINOR, MERIKOHIN_VERSION_PATCH);
+    HOLDS(strcmp(version, MERIKOHIN_VERSION) == 0);
+}
+
+/* Every number has a sentence of its own; all others share one. */
+static void sentences(const char *says(uint32_t), const uint32_t *numbers, int count)
+{
+    for (int k = 0; k < count; k++) {
+        HOLDS(strcmp(says(numbers[k]), says(99)) != 0);
+        for (int l = 0; l < k; l++)
+            HOLDS(strcmp(says(numbers[k]), says(numbers[l])) != 0);
+    }
+}
+
+static void nothing_lent(void)
+{
+    merikohin_triangle t;
+    memset(&t, 0, sizeof t);
+    const merikohin_screen s = screen_of(0, 128, MERIKOHIN_SIZE(16, 4));
+    HOLDS(merikohin_clear(NULL, 0, s, 0, 0) == MERIKOHIN_SCREEN_NOT_SOUND);
+    HOLDS(merikohin_draw(NULL, 0, s, t).number == MERIKOHIN_SCREEN_NOT_SOUND);
+    HOLDS(merikohin_row_check(NULL, 0, s, 0) == MERIKOHIN_SCREEN_NOT_SOUND);
+    HOLDS(merikohin_row(NULL, 0, s, 0).number == MERIKOHIN_SCREEN_NOT_SOUND);
+    HOLDS(merikohin_run(NULL, 0, NULL, 0, NULL, 0, merikohin_fresh(), 9).number == MERIKOHIN_MEMORY_NOT_1024);
+    static uint32_t memory[MERIKOHIN_MEMORY_WORDS];
+    const merikohin_ran ran = merikohin_run(NULL, 0, memory, MERIKOHIN_MEMORY_WORDS, NULL, 0, merikohin_fresh(), 9);
+    HOLDS(ran.number == MERIKOHIN_DONE && ran.steps == 0 && ran.state.halt == MERIKOHIN_HALT_PLACE);
+}
+
+/* At every address of RAM a clear and a row. */
+static void any_address(void)
+{
+    static uint8_t ram[256 + 16];
+    const merikohin_screen s = screen_of(0, 128, MERIKOHIN_SIZE(16, 4));
+    for (int lead = 0; lead < 16; lead++) {
+        HOLDS(merikohin_clear(ram + lead, 256, s, 0x1234, 65535) == MERIKOHIN_DONE);
+        HOLDS(ram[lead] == 0x12 && ram[lead + 127] == 0x34 && ram[lead + 128] == 0xff);
+        const merikohin_row_part row = merikohin_row(ram + lead, 256, s, 3);
+        HOLDS(row.number == MERIKOHIN_DONE && row.start == 96 && row.length == 32);
+    }
+    HOLDS(merikohin_row_check(ram, 256, s, 4) == MERIKOHIN_ROW_OUT_OF_RANGE);
+}
+
+/* A fresh state has 0 in every field; a run leaves what was there in those that mean nothing. */
+static void without_meaning(void)
+{
+    static uint32_t memory[MERIKOHIN_MEMORY_WORDS];
+    const uint32_t program[] = {(uint32_t)MERIKOHIN_LI << 26 | 1 << 21 | 7};
+    merikohin_state state = merikohin_fresh();
+    const uint32_t *words = (const uint32_t *)(const void *)&state;
+    for (size_t k = 0; k < sizeof state / 4; k++)
+        HOLDS(words[k] == 0);
+    state.screen = screen_of(1, 2, 3);
+    state.tree.column = 5;
+    state.tree.depth[15] = 6;
+    state.tree.has_depth = 7;
+    const merikohin_ran ran = merikohin_run(program, 1, memory, MERIKOHIN_MEMORY_WORDS, NULL, 0, state, 9);
+    HOLDS(ran.number == MERIKOHIN_DONE && ran.steps == 1 && ran.state.registers[1] == 7);
+    HOLDS(ran.state.screen.colour_start == 1 && ran.state.screen.depth_start == 2 && ran.state.screen.size_number == 3);
+    HOLDS(ran.state.tree.column == 5 && ran.state.tree.depth[15] == 6 && ran.state.tree.has_depth == 1);
+}
+
+int main(void)
+{
+    const uint32_t numbers[] = {0, 1, 2, 3, 4, 5, 6, 7, 8}, halts[] = {0, 11, 12, 13, 14, 15, 16, 17};
+    constants();
+    sentences(merikohin_says, numbers, 9);
+    sentences(merikohin_halt_says, halts, 8);
+    nothing_lent();
+    any_address();
+    without_meaning();
+    return failed;
+}
