@@ -1,8 +1,5 @@
-// The machine's arithmetic on 32-bit words: the fields of an instruction, what it works out, its flags, whether a jump goes, and DOT.
+// The machine's arithmetic on 32-bit words: the fields of an instruction, what it works out, its flags, and DOT.
 pub mod arithmetic;
 pub mod dot;
 pub mod fields;
-pub mod jumps;
-pub mod opcodes;
 pub mod signed;
-pub mod value;

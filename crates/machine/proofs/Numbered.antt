@@ -36,16 +36,21 @@ module _ (program : List ℕ) (m : Machine) where
         let f : eqb (runNumber program m) 0 ≡ false = ap (λ (n : ℕ). eqb n 0) (sym h) ∙ ne-eqb number 0 d in
         record { answers = h; counts = rw f; leaves = rw f }
 
-    pub runs-done : (first final after : Machine) (count : ℕ)
+    pub runs-done : (count : ℕ) (after : Machine)
         → number ≡ 0
-        → first ≡ m
-        → after ≡ final
-        → Ends program budget first count final
+        → Ends program budget m count after
         → Runs program budget m number count after
-    runs-done first final after count z hf ha e =
+    runs-done count after z e =
         let n : runNumber program m ≡ 0 = sym h ∙ z in
-        record {
-          answers = h;
-          counts = rw n (e .counts ∙ ap (steps program budget) hf);
-          leaves = rw n (ha ∙ e .leaves ∙ ap (run program budget) hf);
-        }
+        record { answers = h; counts = rw n (e .counts); leaves = rw n (e .leaves) }
+
+  -- a run between machines that are the same ones
+  pub ends-same : {budget count : ℕ} {first final after : Machine}
+      → first ≡ m
+      → after ≡ final
+      → Ends program budget first count final
+      → Ends program budget m count after
+  ends-same {budget} f a e = record {
+    counts = e .counts ∙ ap (steps program budget) f;
+    leaves = a ∙ e .leaves ∙ ap (run program budget) f;
+  }

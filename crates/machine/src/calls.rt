@@ -1,21 +1,21 @@
 // The machine's calls: a fresh state, whether a state is ill-formed, and a run.
 use instructions::State;
 use instructions::Tree;
+use pieces::state::cpu_of;
+use pieces::state::joined;
+use pieces::state::view_of;
 use rules::Screen;
 use screen::sizes::sound;
 use screen::sizes::too_long;
-use steps::parts::cpu_of;
-use steps::parts::state_of;
-use steps::parts::view_of;
 use steps::running::run;
 use tree::refuses;
 ghost use mathlib.Core.Path.{_≡_};
 ghost use Rattle.instructions.specs.Step.{together};
-ghost use Rattle.instructions.specs.Run.{illFormed, machineNumber};
+ghost use Rattle.instructions.specs.Run.{illFormed, machineNumber, runNumber};
 ghost use Rattle.instructions.specs.Calls.{Fresh, Runs};
+ghost use Rattle.steps.specs.Runs.{Ends};
 
 // What a run answers: its number, the steps carried out, and the state.
-#[repr(C)]
 pub struct Ran {
     pub number: u32,
     pub steps: u64,
@@ -92,6 +92,42 @@ pub fn machine_number(program: usize, memory: usize, ram: usize, state: State) -
     0
 }
 
+// What a run of an accepted call leaves.
+pub struct Left {
+    pub steps: u64,
+    pub state: State,
+}
+
+// A call that no number refuses, so that whoever has judged it need not judge it again.
+pub fn run_accepted(
+    program: &[u32],
+    memory: &mut [u32],
+    ram: &mut [u8],
+    state: State,
+    budget: u64,
+) -> Left
+    requires { ⌜ runNumber (now program) (together state (now memory) (now ram)) ≡ 0 ⌝ }
+    ensures { λ r. ⌜ Ends (now (program .entry)) budget (together state (now (memory .entry)) (now (ram .entry))) (r .steps) (together (r .state) (now (memory .exit)) (now (ram .exit))) ⌝ }
+{
+    let mut regs = state.regs;
+    let end = run(
+        program,
+        &mut regs,
+        memory,
+        ram,
+        cpu_of(state),
+        view_of(state),
+        budget,
+    );
+    let cpu = end.cpu;
+    let view = end.view;
+    let last = joined(regs, cpu, view);
+    Left {
+        steps: end.steps,
+        state: last,
+    }
+}
+
 // At most `budget` steps. A number other than 0 leaves the state and all memory as they were.
 pub fn run_machine(
     program: &[u32],
@@ -110,22 +146,11 @@ pub fn run_machine(
             state,
         };
     }
-    let mut regs = state.regs;
-    let end = run(
-        program,
-        &mut regs,
-        memory,
-        ram,
-        cpu_of(state),
-        view_of(state),
-        budget,
-    );
-    let cpu = end.cpu;
-    let view = end.view;
-    let last = state_of(regs, cpu, view);
+    let left = run_accepted(program, memory, ram, state, budget);
+    let last = left.state;
     Ran {
         number,
-        steps: end.steps,
+        steps: left.steps,
         state: last,
     }
 }

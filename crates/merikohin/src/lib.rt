@@ -3,7 +3,7 @@ use border::LentState;
 use border::lent_state;
 use border::state_of;
 use machine::calls::machine_number;
-use machine::calls::run_machine;
+use machine::calls::run_accepted;
 use reader::RowPart;
 use rules::Drawn;
 use rules::Screen;
@@ -67,7 +67,7 @@ pub extern "C" fn merikohin_run(
     ensures { λ r. ⌜ RunsLent (now (program .entry)) budget state (now (memory .entry)) (now (ram .entry)) r (now (memory .exit)) (now (ram .exit)) ⌝ }
 {
     let given = state_of(state);
-    // judged before the run, so that the lent state is not kept through it: refused, it is answered bit by bit
+    // refused, the lent state is answered bit by bit
     let number = machine_number(program.len(), memory.len(), ram.len(), given);
     if number != 0 {
         return LentRan {
@@ -76,12 +76,12 @@ pub extern "C" fn merikohin_run(
             state,
         };
     }
-    let ran = run_machine(program, memory, ram, given, budget);
-    let last = ran.state;
+    let left = run_accepted(program, memory, ram, given, budget);
+    let last = left.state;
     let state = lent_state(last);
     LentRan {
-        number: ran.number,
-        steps: ran.steps,
+        number,
+        steps: left.steps,
         state,
     }
 }

@@ -14,10 +14,10 @@ use Rattle.instructions.specs.Run.{run, isCounted, steps}
 use Rattle.instructions.proofs.Run.{run-halted, steps-halted, uncounted-stops, counted-goes-on}
 use Rattle.instructions.proofs.Lengths.{step-keeps-lengths}
 use Rattle.instructions.proofs.WellFormed.{WellFormed, well-formed-facts, step-well-formed}
-use Rattle.steps.specs.declared.parts.Cpu.{Cpu}
-use Rattle.steps.specs.declared.parts.View.{View}
-use Rattle.steps.specs.Parts.{machine, stopped}
-use Rattle.steps.specs.Steps.{stepped, Shows}
+use Rattle.pieces.specs.declared.state.Cpu.{Cpu}
+use Rattle.pieces.specs.declared.state.View.{View}
+use Rattle.pieces.specs.Pieces.{machine, stopped}
+use Rattle.pieces.specs.Steps.{stepped, Shows}
 use Rattle.steps.specs.Runs.{Ready, Ends}
 
 module _ (program : List ℕ) (m : Machine) (h : m .state .halt ≡ 0) where

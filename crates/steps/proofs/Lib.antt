@@ -1,6 +1,2 @@
-pub mod Zeroed
-pub mod RowLaws
-pub mod ResultLaws
-pub mod TreeVals
-pub mod Joined
+pub mod Otherwise
 pub mod Invariant

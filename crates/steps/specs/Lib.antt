@@ -1,4 +1,3 @@
--- The machine in parts, as the code holds it, and what its parts of a step and of a run promise.
-pub mod Parts
-pub mod Steps
+-- What a step may count on, and what a run leaves.
+pub mod Fits
 pub mod Runs

@@ -1,15 +1,15 @@
 // The run: each step in turn, to the budget or to a halt.
-use crate::drawing::draw_step;
+use crate::arms::plain_step;
+use crate::arms::view_step;
 use crate::opcodes::WRITE;
-use crate::parts::Cpu;
-use crate::parts::View;
-use crate::parts::stopped;
-use crate::plain::plain_step;
 use alu::fields::opcode;
-ghost use Rattle.steps.specs.Parts.{machine};
+use pieces::state::Cpu;
+use pieces::state::View;
+use pieces::state::stopped;
+ghost use Rattle.pieces.specs.Pieces.{machine};
 ghost use Rattle.steps.specs.Runs.{Ends, Ready};
 
-// What a run leaves of the parts by value, and the steps carried out.
+// What a run leaves of the pieces by value, and the steps carried out.
 pub struct Ended {
     pub cpu: Cpu,
     pub view: View,
@@ -49,7 +49,7 @@ pub fn run(
             }
             steps += 1;
         } else {
-            let turn = draw_step(w, regs, cpu, view, ram);
+            let turn = view_step(w, regs, cpu, view, ram);
             cpu = turn.cpu;
             view = turn.view;
             if cpu.halt != 0 {

@@ -10,7 +10,7 @@ use Rattle.instructions.specs.Step.{together}
 use Rattle.border.specs.declared.LentState.{LentState}
 use Rattle.border.specs.Lent.{lentState}
 use Rattle.merikohin.specs.Lends.{answered}
-use Rattle.machine.proofs.Numbered.{runs-refused}
+use Rattle.machine.proofs.Numbered.{runs-refused, runs-done}
 use Rattle.merikohin.proofs.Lends.{runs-of-equal}
 use Rattle.merikohin.proofs.merikohin_run.Statement.{statement}
 use Rattle.merikohin.proofs.merikohin_run.Tie as tie
@@ -29,19 +29,24 @@ machine-number-requires c κs = search needs
 
 returns : tie.Need-returns
 returns c =
-    let n = c .before in
-    let read = n .before in
-    let given = read .state-of in
-    let s = read .before .before .before .before .args in
-    let m = together (given .result) (now (s .memory)) (now (s .ram)) in
+    let entered = c .before .before in
+    let s = entered .before .before .before .before in
+    let given = entered .state-of in
     record {
       after = given .result;
-      runs = runs-of-equal (given .ensures) (runs-refused _ m _ _ (n .machine-number .ensures) (c .if1 .taken));
-      answers = sym (refused (n .machine-number .result) (s .state) (given .result) (c .if1 .taken));
+      runs =
+          runs-of-equal (given .ensures)
+          (runs-refused _ (together (given .result) (now (s .args .memory)) (now (s .args .ram))) _ _
+          (c .before .machine-number .ensures) (c .if1 .taken));
+      answers = sym (refused (c .before .machine-number .result) (s .args .state) (given .result) (c .if1 .taken));
     }
 
-run-machine-requires : tie.Need-run-machine-requires
-run-machine-requires c κs = search needs
+run-accepted-requires : tie.Need-run-accepted-requires
+run-accepted-requires c κs =
+    let test = c .before .before in
+    let judged = test .before in
+    let given = judged .before .state-of in
+    sym (judged .machine-number .ensures) ∙ test .if1 .left
 
 lent-state-requires : tie.Need-lent-state-requires
 lent-state-requires c κs = search needs
@@ -54,18 +59,21 @@ same-length-2 c = search needs
 
 returns-2 : tie.Need-returns-2
 returns-2 c =
-    let ended = c .before .before .before in
-    let r = ended .before .before .before in
-    let accepting = r .before .before .before in
-    let n = accepting .before in
-    let read = n .before in
-    let s = read .before .before .before .before in
-    let ran = r .run-machine in
-    let none : ran .result .number ≡ 0 = ran .ensures .answers ∙ sym (n .machine-number .ensures) ∙ accepting .if1 .left in
+    let kept = c .before .before .before .before in
+    let done = kept .before .before in
+    let test = done .before .before .before in
+    let judged = test .before in
+    let given = judged .before .state-of in
+    let s = judged .before .before .before .before .before in
+    let number = judged .machine-number .result in
+    let after = done .run-accepted .result .state in
     record {
-      after = ran .result .state;
-      runs = runs-of-equal (read .state-of .ensures) (ran .ensures);
-      answers = c .lent-state .ensures ∙ sym (accepted (ran .result .number) (s .args .state) (ran .result .state) none);
+      after = after;
+      runs =
+          runs-of-equal (given .ensures)
+          (runs-done _ (together (given .result) (now (s .args .memory)) (now (s .args .ram))) _ _
+          (judged .machine-number .ensures) _ _ (test .if1 .left) (done .run-accepted .ensures));
+      answers = c .lent-state .ensures ∙ sym (accepted number (s .args .state) after (test .if1 .left));
     }
 
 pub merikohin-run-spec : {M : Type 1} → statement M
@@ -75,7 +83,7 @@ merikohin-run-spec =
     state-of-requires
     machine-number-requires
     returns
-    run-machine-requires
+    run-accepted-requires
     lent-state-requires
     same-length
     same-length-2

@@ -32,8 +32,8 @@ low32-requires c κs = tt
 returns-2 : tie.Need-returns-2
 unfolding reciprocal
 returns-2 c =
-    let tested = c .before .before in
-    rw (ne-eqb (tested .before .args .a) 0 (tested .if1 .left))
+    let test = c .before .before in
+    rw (ne-eqb (test .before .args .a) 0 (test .if1 .left))
     (c .low32 .ensures
     ∙ ap mod32 (reads-as (quotient (c .before)) tt ∙ ap (quotZ (pos 2147483647)) (c .before .signed .ensures)))
 

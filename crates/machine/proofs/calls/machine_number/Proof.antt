@@ -20,10 +20,10 @@ too-long-requires c κs = search needs
 returns-3 : tie.Need-returns-3
 unfolding machineNumber
 returns-3 c =
-    let words = c .before .before in
+    let second = c .before .before in
     rw (
-      le-ltb _ _ (words .before .if1 .left),
-      eq-eqb _ _ (words .if2 .left),
+      le-ltb _ _ (second .before .if1 .left),
+      eq-eqb _ _ (second .if2 .left),
       sym (c .before .too-long .ensures),
       c .if3 .taken,
     )
@@ -34,13 +34,13 @@ ill-formed-requires c κs = search needs
 returns-4 : tie.Need-returns-4
 unfolding machineNumber
 returns-4 c =
-    let short = c .before .before in
-    let words = short .before .before in
+    let third = c .before .before in
+    let second = third .before .before in
     rw (
-      le-ltb _ _ (words .before .if1 .left),
-      eq-eqb _ _ (words .if2 .left),
-      sym (short .before .too-long .ensures),
-      short .if3 .left,
+      le-ltb _ _ (second .before .if1 .left),
+      eq-eqb _ _ (second .if2 .left),
+      sym (third .before .too-long .ensures),
+      third .if3 .left,
       sym (c .before .ill-formed .ensures),
       c .if4 .taken,
     )
@@ -48,13 +48,13 @@ returns-4 c =
 returns-5 : tie.Need-returns-5
 unfolding machineNumber
 returns-5 c =
-    let short = c .before .before in
-    let words = short .before .before in
+    let third = c .before .before in
+    let second = third .before .before in
     rw (
-      le-ltb _ _ (words .before .if1 .left),
-      eq-eqb _ _ (words .if2 .left),
-      sym (short .before .too-long .ensures),
-      short .if3 .left,
+      le-ltb _ _ (second .before .if1 .left),
+      eq-eqb _ _ (second .if2 .left),
+      sym (third .before .too-long .ensures),
+      third .if3 .left,
       sym (c .before .ill-formed .ensures),
       c .if4 .left,
     )

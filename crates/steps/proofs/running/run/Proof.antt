@@ -1,14 +1,15 @@
 -- The loop's invariant is `Kept`: what is left to run from here is the whole run. A turn is one step, which goes on or halts.
 use borrow.Author.Needs.{needs}
-use Prim.Native.Nat.{_-_}
+use Prim.Native.Nat.{_-_, _<_}
 use mathlib.Core.Path.{_≡_, sym, _∙_, ap}
 use native.Mathlib.Omega.{arith}
 use denote.Ref.{now}
 use lib.ListN.{length}
 use Rattle.instructions.specs.Step.{Machine, step}
-use Rattle.steps.specs.declared.parts.Cpu.{Cpu}
-use Rattle.steps.specs.Parts.{machine}
-use Rattle.steps.proofs.Invariant.{Kept, stops-past, step-in, ready-facts, ready-shows, halted-ends, kept-start, kept-end, kept-stop, kept-turn}
+use Rattle.pieces.specs.declared.state.Cpu.{Cpu}
+use Rattle.pieces.specs.Pieces.{machine}
+use Rattle.steps.proofs.Invariant.{Kept, stops-past, step-in, ready-facts, ready-shows}
+use Rattle.steps.proofs.Invariant.{halted-ends, kept-start, kept-end, kept-stop, kept-turn}
 use Rattle.steps.proofs.running.run.Statement.{statement}
 use Rattle.steps.proofs.running.run.Tie as tie
 
@@ -22,30 +23,74 @@ abbrev μ-loop : tie.MeasureT-loop
 abbrev first-of : tie.Start Inv-loop μ-loop → Machine
 first-of c = machine (now (c .args .regs)) (c .args .first) (c .args .given) (now (c .args .memory)) (now (c .args .ram))
 
-same-memory : (c : tie.At-loop Inv-loop μ-loop) → length (c .loop .memory) ≡ length (now (c .before .before .before .before .before .before .args .memory))
-same-memory c = c .loop .inv .ready .size ∙ sym (c .before .before .before .before .before .before .pre .size)
+-- the start of the run, and the machine, at a turn
+abbrev start-of : tie.At-loop Inv-loop μ-loop → tie.Start Inv-loop μ-loop
+start-of c =
+    let entered = c .before .before .before in
+    entered .before .before .before
+
+abbrev here : tie.At-loop Inv-loop μ-loop → Machine
+here c = machine (c .loop .regs) (c .loop .cpu) (c .loop .view) (c .loop .memory) (c .loop .ram)
+
+same-memory : (c : tie.At-loop Inv-loop μ-loop) → length (c .loop .memory) ≡ length (now (start-of c .args .memory))
+same-memory c = c .loop .inv .ready .size ∙ sym (start-of c .pre .size)
+
+-- a step up to WRITE: its turn, that the budget is not spent, and that it is the definition's
+abbrev plain-turn : tie.After-plain-step Inv-loop μ-loop → tie.At-loop Inv-loop μ-loop
+plain-turn c =
+    let kind = c .before .before .before .before in
+    let inside = kind .before .before .before in
+    inside .before .before .before
+
+plain-below : (c : tie.After-plain-step Inv-loop μ-loop) → plain-turn c .loop .steps < start-of (plain-turn c) .args .budget
+plain-below c =
+    let kind = c .before .before .before .before in
+    let inside = kind .before .before .before in
+    inside .before .before .loop-test .taken
 
 plain-stepped : (c : tie.After-plain-step Inv-loop μ-loop)
-    → machine (c .plain-step .last .1 .0) (c .plain-step .result) (c .before .before .before .before .before .before .before .before .before .before .loop .view) (c .plain-step .last .1 .1 .0) (c .plain-step .last .1 .1 .1 .0)
-    ≡ step (now (c .before .before .before .before .before .before .before .before .before .before .before .before .before .before .before .before .args .program)) (machine (c .before .before .before .before .before .before .before .before .before .before .loop .regs) (c .before .before .before .before .before .before .before .before .before .before .loop .cpu) (c .before .before .before .before .before .before .before .before .before .before .loop .view) (c .before .before .before .before .before .before .before .before .before .before .loop .memory) (c .before .before .before .before .before .before .before .before .before .before .loop .ram))
+    → let p = c .plain-step in
+    machine (p .last .1 .0) (p .result) (plain-turn c .loop .view) (p .last .1 .1 .0) (p .last .1 .1 .1 .0)
+    ≡ step (now (start-of (plain-turn c) .args .program)) (here (plain-turn c))
 plain-stepped c =
-    let l = c .before .before .before .before .before .before .before .before .before .before .loop in
-    c .plain-step .ensures (l .view)
-    ∙ step-in _ (machine (l .regs) (l .cpu) (l .view) (l .memory) (l .ram)) (l .inv .goes) (c .before .before .before .before .before .before .before .if2 .left)
+    let kind = c .before .before .before .before in
+    let inside = kind .before .before .before in
+    let turn = plain-turn c in
+    c .plain-step .ensures (turn .loop .view) ∙ step-in _ (here turn) (turn .loop .inv .goes) (inside .if2 .left)
 
-draw-stepped : (c : tie.After-draw-step Inv-loop μ-loop)
-    → machine (c .draw-step .last .1 .0) (c .draw-step .result .cpu) (c .draw-step .result .view) (c .before .before .before .before .before .before .before .before .before .loop .memory) (c .draw-step .last .1 .1 .1 .1 .0)
-    ≡ step (now (c .before .before .before .before .before .before .before .before .before .before .before .before .before .before .before .args .program)) (machine (c .before .before .before .before .before .before .before .before .before .loop .regs) (c .before .before .before .before .before .before .before .before .before .loop .cpu) (c .before .before .before .before .before .before .before .before .before .loop .view) (c .before .before .before .before .before .before .before .before .before .loop .memory) (c .before .before .before .before .before .before .before .before .before .loop .ram))
-draw-stepped c =
-    let l = c .before .before .before .before .before .before .before .before .before .loop in
-    c .draw-step .ensures (l .memory)
-    ∙ step-in _ (machine (l .regs) (l .cpu) (l .view) (l .memory) (l .ram)) (l .inv .goes) (c .before .before .before .before .before .before .if2 .left)
+-- the same of a step from SCRSET on
+abbrev view-turn : tie.After-view-step Inv-loop μ-loop → tie.At-loop Inv-loop μ-loop
+view-turn c =
+    let kind = c .before .before .before in
+    let inside = kind .before .before .before in
+    inside .before .before .before
+
+view-below : (c : tie.After-view-step Inv-loop μ-loop) → view-turn c .loop .steps < start-of (view-turn c) .args .budget
+view-below c =
+    let kind = c .before .before .before in
+    let inside = kind .before .before .before in
+    inside .before .before .loop-test .taken
+
+view-stepped : (c : tie.After-view-step Inv-loop μ-loop)
+    → let p = c .view-step in
+    machine (p .last .1 .0) (p .result .cpu) (p .result .view) (view-turn c .loop .memory) (p .last .1 .1 .1 .1 .0)
+    ≡ step (now (start-of (view-turn c) .args .program)) (here (view-turn c))
+view-stepped c =
+    let kind = c .before .before .before in
+    let inside = kind .before .before .before in
+    let turn = view-turn c in
+    c .view-step .ensures (turn .loop .memory) ∙ step-in _ (here turn) (turn .loop .inv .goes) (inside .if2 .left)
 
 returns : tie.Need-returns Inv-loop μ-loop
-returns c = halted-ends _ _ (first-of (c .before .before .before .before .before)) (c .if1 .taken)
+returns c =
+    let entered = c .before .before .before in
+    halted-ends _ _ (first-of (entered .before .before)) (c .if1 .taken)
 
 loop-holds : tie.Need-loop-holds Inv-loop μ-loop
-loop-holds c = kept-start _ _ (first-of (c .before .before .before .before .before)) (c .before .before .before .before .before .pre) (c .if1 .left)
+loop-holds c =
+    let entered = c .before .before .before in
+    let start = entered .before .before in
+    kept-start _ _ (first-of start) (start .pre) (c .if1 .left)
 
 cast-place : tie.Need-cast-place Inv-loop μ-loop
 cast-place c = search needs
@@ -61,8 +106,9 @@ same-length-2 c = c .before .before .before .before .loop .inv .sameRam
 
 returns-2 : tie.Need-returns-2 Inv-loop μ-loop
 returns-2 c =
-    let l = c .before .before .before .before .loop in
-    kept-stop (l .inv) (c .before .before .before .loop-test .taken) _
+    let test = c .before .before .before in
+    let l = test .before .loop in
+    kept-stop (l .inv) (test .loop-test .taken) _
     (ap (λ (x : Cpu). machine (l .regs) x (l .view) (l .memory) (l .ram)) (c .stopped .ensures)
     ∙ stops-past _ (l .regs) (l .cpu) (l .view) (l .memory) (l .ram) (l .inv .goes) (c .before .if2 .taken))
     (λ e. omega (arith, ap (λ (x : Cpu). x .halt) (c .stopped .ensures), e))
@@ -78,55 +124,100 @@ opcode-requires c κs = tt
 
 plain-step-requires : tie.Need-plain-step-requires Inv-loop μ-loop
 plain-step-requires c κs =
-    let k = c .before .before .before .before .before .before .before .before .before .loop .inv in
+    let kind = c .before .before .before in
+    let inside = kind .before .before .before in
+    let k = inside .before .before .before .loop .inv in
     record {
-      low = omega (arith, c .before .before .before .before .opcode .ensures, c .before .before .before .if3 .taken);
+      low = omega (arith, kind .before .opcode .ensures, kind .if3 .taken);
       size = k .ready .size;
-      going = record { zeroRegister = ready-facts (k .ready) .zeroRegister; inside = omega (arith, k .ready .short, c .before .before .before .before .before .before .if2 .left) };
+      going = record {
+        zeroRegister = ready-facts (k .ready) .zeroRegister;
+        inside = omega (arith, k .ready .short, inside .if2 .left);
+      };
     }
 
 same-length-3 : tie.Need-same-length-3 Inv-loop μ-loop
-same-length-3 c = c .before .before .before .before .before .before .plain-step .kept .1 .1 .0 ∙ same-memory (c .before .before .before .before .before .before .before .before .before .before .before .before .before .before .before .before)
+same-length-3 c =
+    let kept = c .before .before .before .before in
+    let done = kept .before .before in
+    done .plain-step .kept .1 .1 .0 ∙ same-memory (plain-turn done)
 
 same-length-4 : tie.Need-same-length-4 Inv-loop μ-loop
-same-length-4 c = c .before .before .before .before .before .before .plain-step .kept .1 .1 .1 .0 ∙ c .before .before .before .before .before .before .before .before .before .before .before .before .before .before .before .before .loop .inv .sameRam
+same-length-4 c =
+    let kept = c .before .before .before .before in
+    let done = kept .before .before in
+    done .plain-step .kept .1 .1 .1 .0 ∙ plain-turn done .loop .inv .sameRam
 
 returns-3 : tie.Need-returns-3 Inv-loop μ-loop
-returns-3 c = kept-stop (c .before .before .before .before .before .before .before .before .before .before .before .before .before .before .before .before .loop .inv) (c .before .before .before .before .before .before .before .before .before .before .before .before .before .before .before .loop-test .taken) _ (plain-stepped (c .before .before .before .before .before .before)) (c .if4 .taken)
+returns-3 c =
+    let kept = c .before .before .before .before in
+    let done = kept .before .before in
+    kept-stop (plain-turn done .loop .inv) (plain-below done) _ (plain-stepped done) (c .if4 .taken)
 
 add-steps : tie.Need-add-steps Inv-loop μ-loop
-add-steps c = omega (arith, c .before .before .before .before .before .before .before .before .before .before .before .before .before .before .before .loop-test .taken, c .before .before .before .before .before .before .before .before .before .before .before .before .before .before .before .before .before .before .before .before .before .before .fits .budget)
+add-steps c =
+    let kept = c .before .before .before .before in
+    let done = kept .before .before in
+    omega (arith, plain-below done, start-of (plain-turn done) .fits .budget)
 
 loop-less : tie.Need-loop-less Inv-loop μ-loop
-loop-less c = omega (arith, c .before .before .before .before .before .before .before .before .before .before .before .before .before .before .before .loop-test .taken)
+loop-less c =
+    let kept = c .before .before .before .before in
+    omega (arith, plain-below (kept .before .before))
 
 loop-again : tie.Need-loop-again Inv-loop μ-loop
-loop-again c = kept-turn (c .before .before .before .before .before .before .before .before .before .before .before .before .before .before .before .before .loop .inv) (c .before .before .before .before .before .before .before .before .before .before .before .before .before .before .before .loop-test .taken) _ (plain-stepped (c .before .before .before .before .before .before)) (c .if4 .left)
+loop-again c =
+    let kept = c .before .before .before .before in
+    let done = kept .before .before in
+    kept-turn (plain-turn done .loop .inv) (plain-below done) _ (plain-stepped done) (c .if4 .left)
 
-draw-step-requires : tie.Need-draw-step-requires Inv-loop μ-loop
-draw-step-requires c κs =
-    let k = c .before .before .before .before .before .before .before .before .loop .inv in (
-      record { high = omega (arith, c .before .before .before .opcode .ensures, c .before .before .if3 .left); zeroRegister = ready-facts (k .ready) .zeroRegister; shows = ready-shows (k .ready) },
-      omega (arith, k .ready .short, c .before .before .before .before .before .if2 .left),
-    )
+view-step-requires : tie.Need-view-step-requires Inv-loop μ-loop
+view-step-requires c κs =
+    let kind = c .before .before in
+    let inside = kind .before .before .before in
+    let k = inside .before .before .before .loop .inv in
+    record {
+      high = omega (arith, kind .before .opcode .ensures, kind .if3 .left);
+      going = record {
+        zeroRegister = ready-facts (k .ready) .zeroRegister;
+        inside = omega (arith, k .ready .short, inside .if2 .left);
+      };
+      shows = ready-shows (k .ready);
+    }
 
 same-length-5 : tie.Need-same-length-5 Inv-loop μ-loop
-same-length-5 c = same-memory (c .before .before .before .before .before .before .before .before .before .before .before .before .before .before .before)
+same-length-5 c =
+    let kept = c .before .before .before .before in
+    same-memory (view-turn (kept .before .before))
 
 same-length-6 : tie.Need-same-length-6 Inv-loop μ-loop
-same-length-6 c = c .before .before .before .before .before .before .draw-step .kept .1 .1 .1 .1 .0 ∙ c .before .before .before .before .before .before .before .before .before .before .before .before .before .before .before .loop .inv .sameRam
+same-length-6 c =
+    let kept = c .before .before .before .before in
+    let done = kept .before .before in
+    done .view-step .kept .1 .1 .1 .1 .0 ∙ view-turn done .loop .inv .sameRam
 
 returns-4 : tie.Need-returns-4 Inv-loop μ-loop
-returns-4 c = kept-stop (c .before .before .before .before .before .before .before .before .before .before .before .before .before .before .before .loop .inv) (c .before .before .before .before .before .before .before .before .before .before .before .before .before .before .loop-test .taken) _ (draw-stepped (c .before .before .before .before .before .before)) (c .if5 .taken)
+returns-4 c =
+    let kept = c .before .before .before .before in
+    let done = kept .before .before in
+    kept-stop (view-turn done .loop .inv) (view-below done) _ (view-stepped done) (c .if5 .taken)
 
 add-steps-2 : tie.Need-add-steps-2 Inv-loop μ-loop
-add-steps-2 c = omega (arith, c .before .before .before .before .before .before .before .before .before .before .before .before .before .before .loop-test .taken, c .before .before .before .before .before .before .before .before .before .before .before .before .before .before .before .before .before .before .before .before .before .fits .budget)
+add-steps-2 c =
+    let kept = c .before .before .before .before in
+    let done = kept .before .before in
+    omega (arith, view-below done, start-of (view-turn done) .fits .budget)
 
 loop-less-2 : tie.Need-loop-less-2 Inv-loop μ-loop
-loop-less-2 c = omega (arith, c .before .before .before .before .before .before .before .before .before .before .before .before .before .before .loop-test .taken)
+loop-less-2 c =
+    let kept = c .before .before .before .before in
+    omega (arith, view-below (kept .before .before))
 
 loop-again-2 : tie.Need-loop-again-2 Inv-loop μ-loop
-loop-again-2 c = kept-turn (c .before .before .before .before .before .before .before .before .before .before .before .before .before .before .before .loop .inv) (c .before .before .before .before .before .before .before .before .before .before .before .before .before .before .loop-test .taken) _ (draw-stepped (c .before .before .before .before .before .before)) (c .if5 .left)
+loop-again-2 c =
+    let kept = c .before .before .before .before in
+    let done = kept .before .before in
+    kept-turn (view-turn done .loop .inv) (view-below done) _ (view-stepped done) (c .if5 .left)
 
 same-length-7 : tie.Need-same-length-7 Inv-loop μ-loop
 same-length-7 c = same-memory (c .before)
@@ -160,7 +251,7 @@ run-spec =
     add-steps
     loop-less
     loop-again
-    draw-step-requires
+    view-step-requires
     same-length-5
     same-length-6
     returns-4

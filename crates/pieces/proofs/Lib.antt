@@ -1,0 +1,4 @@
+pub mod Zeroed
+pub mod Cases
+pub mod Results
+pub mod Joined
