@@ -58,11 +58,11 @@ module _ (p : Starts) (s : Screen) (m k : List ℕ)
         let g = drawn-pointwise (screenAt p s) k h′ t in
         let w : written t s m x y ≡ written t (screenAt p s) k x y = written-alike x y a b in (
           painted-colour f x y a b
-          ∙ ap₂ (λ (u : Bool) (v : ℕ). choose u (triangleColour t x y) v) w (same x y a b .0)
-          ∙ sym (painted-colour g x y a b),
+              ∙ ap₂ (λ (u : Bool) (v : ℕ). choose u (triangleColour t x y) v) w (same x y a b .0)
+              ∙ sym (painted-colour g x y a b),
           painted-depth f x y a b
-          ∙ ap₂ (λ (u : Bool) (v : ℕ). choose u (triangleDepth t x y) v) w (same x y a b .1)
-          ∙ sym (painted-depth g x y a b),
+              ∙ ap₂ (λ (u : Bool) (v : ℕ). choose u (triangleDepth t x y) v) w (same x y a b .1)
+              ∙ sym (painted-depth g x y a b),
         )
 
     pub counts-alike : (coveredPixels t (screenAt p s) ≡ coveredPixels t s) × (writtenPixels t s m ≡ writtenPixels t (screenAt p s) k)
