@@ -1,4 +1,4 @@
--- TREEPUT pixel by pixel: each leaf touches its own pixel's cell and no other, so after sixteen turns the cells are known, and with them
+-- TREEPUT pixel by pixel: each leaf touches the cell of its own pixel and no other, so after all sixteen the cells are known, and with them
 -- the memory.
 use Prim.Native.Nat.{ℕ, _+_, _≤_, _<_}
 use mathlib.Core.Path.{_≡_, refl, sym, _∙_, ap}

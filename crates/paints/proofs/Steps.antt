@@ -57,16 +57,16 @@ module _ (m : Machine) (w : ℕ) (a : opcode w ≢ WRITE) (b : opcode w ≢ CLS)
       })
 
 -- a step that is not carried out leaves the screen and the RAM
-pub record Same (m k : Machine) : Type 0 where
+pub record Untouched (m k : Machine) : Type 0 where
   pub screen : k .state .screen ≡ m .state .screen
   pub ram : k .ram ≡ m .ram
 
-pub uncounted-keeps : (program : List ℕ) (m : Machine) → isCounted program m ≡ false → Same m (step program m)
+pub uncounted-keeps : (program : List ℕ) (m : Machine) → isCounted program m ≡ false → Untouched m (step program m)
 unfolding step isCounted withHalt
 uncounted-keeps program m e = go (isHalted m) (eqb (nextHalt program m) 0) e
   where
     go : (a b : Bool) → (not a && b) ≡ false
-        → Same m
+        → Untouched m
         (choose a m
         (choose b (performed m (wordAt program (m .state))) (withState (withHalt (nextHalt program m) (m .state)) m)))
     go true b e = record { screen = refl; ram = refl }
