@@ -147,7 +147,7 @@ module _ (t : Vertices) (y : ℕ) (v : verticesInRange t ≡ true) (i : y ≤ 48
       record {
         ordered = omega arith;
         limited = omega arith;
-        run = λ x h. all-inside x h ∙ go x (leb raise (unit * x + leastOf m d)) refl ∙ sym (span-beyond 0 0 x (omega arith));
+        spans = λ x h. all-inside x h ∙ go x (leb raise (unit * x + leastOf m d)) refl ∙ sym (span-beyond 0 0 x (omega arith));
       }
     where
       go : (x : ℕ) (u : Bool) → leb raise (unit * x + leastOf m d) ≡ u → u && ltb (unit * x + mostOf m d w) raise ≡ false
@@ -159,7 +159,7 @@ module _ (t : Vertices) (y : ℕ) (v : verticesInRange t ≡ true) (i : y ≤ 48
       record {
         ordered = omega arith;
         limited = omega (arith, most-ge m d w);
-        run = λ x h.
+        spans = λ x h.
             all-inside x h
             ∙ ap₂ _&&_ (from x (leb raise (unit * x + leastOf m d)) refl) (to x (ltb (unit * x + mostOf m d w) raise) refl);
       }

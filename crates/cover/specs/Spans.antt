@@ -29,4 +29,4 @@ column crossing = (raise - crossing + (unit - 1)) / unit
 pub record RowSpan (t : Vertices) (y w : ℕ) (r : Span) : Type 0 where
   pub ordered : r .from ≤ r .to
   pub limited : r .to ≤ w
-  pub run : (x : ℕ) → x < w → insideAll t (sample x y) ≡ inSpan (r .from) (r .to) x
+  pub spans : (x : ℕ) → x < w → insideAll t (sample x y) ≡ inSpan (r .from) (r .to) x

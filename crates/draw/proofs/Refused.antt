@@ -1,4 +1,4 @@
--- A triangle's number from the screen's: the numbers 3 and 5 go first, and number 0 says that the screen is sound and the vertices are in range.
+-- A triangle's number from the screen's: 3 and 5 go first, and 0 says that the screen is sound and the vertices are in range.
 use Prim.Native.Nat.{ℕ}
 use mathlib.Core.Path.{_≡_, refl, sym, _∙_}
 use mathlib.Core.Logic.{_≢_}

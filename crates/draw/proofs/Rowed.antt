@@ -1,5 +1,6 @@
 -- From the masks to the row. A chunk's ones are its covered pixels, and its word is one mask of them. The loop over the chunks: what holds
--- before column a, that the columns before the span may be skipped, that one chunk more keeps it, and that nothing beyond the span is covered.
+-- before column a, that the columns before the span may be skipped, that one chunk more keeps it, and that nothing beyond the span is
+-- covered.
 use Prim.Native.Nat.{ℕ, _+_, _*_, _-_, _%_, _≤_, _<_}
 use mathlib.Core.Path.{_≡_, refl, _∙_, sym, ap, subst}
 use mathlib.Core.Logic.{_⊎_, inl, inr}
@@ -34,7 +35,9 @@ pub covered-is : (t : Triangle) (s : Screen) {x y : ℕ} → On s x y → covere
 unfolding covered
 covered-is t s p = rw (lt-ltb _ _ (p .across), lt-ltb _ _ (p .down))
 
-pub outside-uncovered : (t : Triangle) (s : Screen) {x y : ℕ} → On s x y → insideAll (t .vertices) (sample x y) ≡ false → covered t s x y ≡ false
+pub outside-uncovered : (t : Triangle) (s : Screen) {x y : ℕ} → On s x y
+    → insideAll (t .vertices) (sample x y) ≡ false
+    → covered t s x y ≡ false
 outside-uncovered t s p h = covered-is t s p ∙ h
 
 module _ (m₀ : List ℕ) (s : Screen) (t : Triangle) (y a : ℕ) (m : Masks) (c : Counts) (q : ChunkAsked (length m₀) s t y a m c) where
@@ -80,10 +83,10 @@ pub record Across (m₀ : List ℕ) (s : Screen) (t : Triangle) (y from : ℕ) (
 
 module _ (m₀ : List ℕ) (s : Screen) (t : Triangle) (y from to : ℕ) (c₀ : Counts) (q : RowAsked (length m₀) s t y from to c₀) where
   within : (x : ℕ) → from ≤ x → x < to → covered t s x y ≡ true
-  within x h l = q .run x (omega (arith, q .limited)) ∙ span-within from to x h l
+  within x h l = q .spans x (omega (arith, q .limited)) ∙ span-within from to x h l
 
   before : (x : ℕ) → x < from → covered t s x y ≡ false
-  before x h = q .run x (omega (arith, q .ordered, q .limited)) ∙ span-before from to x h
+  before x h = q .spans x (omega (arith, q .ordered, q .limited)) ∙ span-before from to x h
 
   -- in the row beyond the span, and beyond the row
   beyond : (x : ℕ) → to ≤ x → covered t s x y ≡ false
@@ -91,7 +94,7 @@ module _ (m₀ : List ℕ) (s : Screen) (t : Triangle) (y from to : ℕ) (c₀ :
   beyond x h = go (ltb x (width (s .size))) refl
     where
       go : (b : Bool) → ltb x (width (s .size)) ≡ b → covered t s x y ≡ false
-      go true e = q .run x (ltb-true x (width (s .size)) e) ∙ span-beyond from to x h
+      go true e = q .spans x (ltb-true x (width (s .size)) e) ∙ span-beyond from to x h
       go false e = rw e
 
   -- so beyond the span nothing is counted and nothing is drawn

@@ -1,6 +1,6 @@
 -- The loop over a word's pixels: what holds after k of them, that it holds at the first one, and that one pixel more keeps it. The word's
--- top bit says whether pixel k is covered; a covered one is written where the code's test of the depth says so, and after the last one there
--- is none.
+-- top bit says whether pixel k is covered; a covered one is written where the code's test of the depth says so, and after the last one
+-- there is none.
 use Prim.Native.Nat.{ℕ, _+_, _*_, _-_, _%_, _^_, _≤_, _<_}
 use mathlib.Core.Path.{_≡_, refl, sym, _∙_, ap, ap₂, subst}
 use mathlib.Core.Bool.{Bool, true, false}

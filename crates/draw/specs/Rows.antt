@@ -43,7 +43,7 @@ pub record RowAsked (n : ℕ) (s : Screen) (t : Triangle) (y a b : ℕ) (before 
   pub row : y < height (s .size)
   pub ordered : a ≤ b
   pub limited : b ≤ width (s .size)
-  pub run : (x : ℕ) → x < width (s .size) → covered t s x y ≡ inSpan a b x
+  pub spans : (x : ℕ) → x < width (s .size) → covered t s x y ≡ inSpan a b x
   pub room : Room before 1024
 
 pub record RowDone (m : List ℕ) (s : Screen) (t : Triangle) (y : ℕ) (before answer : Counts) (after : List ℕ) : Type 0 where

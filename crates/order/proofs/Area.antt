@@ -28,7 +28,9 @@ module _ (t : Triangle) (p : Point) where
   abbrev value : Exp → Exp → Exp → Exp → Exp
   value x1 y1 x2 y2 = (var 7 ⊖ y1) ⊗ (x2 ⊖ x1) ⊖ (var 6 ⊖ x1) ⊗ (y2 ⊖ y1)
 
-  pub values-sum : edgeValue (edge1 (t .vertices)) p +ℤ edgeValue (edge2 (t .vertices)) p +ℤ edgeValue (edge3 (t .vertices)) p ≡ doubledArea (t .vertices)
+  pub values-sum :
+      let v = t .vertices in
+      edgeValue (edge1 v) p +ℤ edgeValue (edge2 v) p +ℤ edgeValue (edge3 v) p ≡ doubledArea v
   unfolding edgeValue doubledArea
   values-sum =
       solve ρ
@@ -43,7 +45,9 @@ not-positive (negsuc n) e = leZ-yes tt
 
 module _ (t : Triangle) (p : Point) (h : insideAll (t .vertices) p ≡ true) where
   abbrev σ : List ℤ
-  σ = edgeValue (edge1 (t .vertices)) p ∷ edgeValue (edge2 (t .vertices)) p ∷ edgeValue (edge3 (t .vertices)) p ∷ doubledArea (t .vertices) ∷ []
+  σ =
+      let v = t .vertices in
+      edgeValue (edge1 v) p ∷ edgeValue (edge2 v) p ∷ edgeValue (edge3 v) p ∷ doubledArea v ∷ []
 
   pub inside-area : positive (doubledArea (t .vertices)) ≡ true
   inside-area = go (positive (doubledArea (t .vertices))) refl

@@ -31,7 +31,8 @@ pub worked-hold :
 unfolding workedDrawings workedRuns mod32 upto howMany pixels sound soundAreas colourAt depthAt loadHalf storeHalf putPixel planeAt topHalf
     packed triangleDepth triangleColour sample edgeValue keepsZero inside insideAll covered written pixelDrawn rowDrawn drawn
     verticesInRange edgeTooLarge triangleTooLarge rowNumber triangleNumber cleared rowStart rowLength withRegister signExtended address
-    roundedProduct reciprocal immediate shiftAmount shiftedLeft shiftedRight shiftedSigned dot value result goes nextPlace loadWord storeWord
+    roundedProduct reciprocal immediate shiftAmount shiftedLeft shiftedRight shiftedSigned dot value result goes nextPlace loadWord
+    storeWord
     wordRead wordsRead wordWritten wordsWritten each refusesPlace maskBit treeSet leafValue marked treeIn deepened treeDepth replaced
     treeColour treeVal leafPut treePut outsideData moveOutsideData moveOutsideRam noScreen noTree wordHalt haltNumber withRegisters
     withPlace withFlags withHalt withScreen withTree afterResult afterST afterCALL afterREAD afterWRITE afterSCRSET afterCLS

@@ -26,7 +26,8 @@ abbrev μ-loop : tie.MeasureT-loop
 on-screen : (c : tie.In-loop Inv-loop μ-loop) →
     let rows = c .before .before .before in
     let sized = rows .before .before in
-    c .before .loop .y < height (sized .before .before .before .before .args .s .size)
+    let start = sized .before .before .before .before in
+    c .before .loop .y < height (start .args .s .size)
 on-screen c =
     let rows = c .before .before .before in
     omega (arith, c .loop-test .taken, rows .touched-rows .ensures .limited, rows .before .height .ensures)
@@ -41,7 +42,9 @@ height-requires : tie.Need-height-requires Inv-loop μ-loop
 height-requires c κs = tt
 
 touched-rows-requires : tie.Need-touched-rows-requires Inv-loop μ-loop
-touched-rows-requires c κs = let sized = c .before in sized .before .before .before .before .pre .in-range
+touched-rows-requires c κs =
+    let sized = c .before in
+    sized .before .before .before .before .pre .in-range
 
 crossings-at-requires : tie.Need-crossings-at-requires Inv-loop μ-loop
 crossings-at-requires c κs =
@@ -91,7 +94,8 @@ row-requires c κs =
     let span = c .before .row-span in
     let r : RowSpan (a .t .vertices) (l .y) (width (a .s .size)) (span .result) =
     subst (λ (n : ℕ). RowSpan (a .t .vertices) (l .y) n (span .result)) (sized .width .ensures)
-    (span .ensures (a .t .vertices) (l .y) (q .pre .in-range) (omega (arith, row, height-le f)) (sized .before .sides .ensures) (l .inv .2)) in
+    (span .ensures (a .t .vertices) (l .y) (q .pre .in-range) (omega (arith, row, height-le f))
+    (sized .before .sides .ensures) (l .inv .2)) in
     record {
       is-sound =
           subst (λ (n : ℕ). sound n (a .s) ≡ true)
@@ -100,7 +104,7 @@ row-requires c κs =
       row = row;
       ordered = r .ordered;
       limited = r .limited;
-      run = λ x h. covered-is (a .t) (a .s) (record { across = h; down = row }) ∙ r .run x h;
+      spans = λ x h. covered-is (a .t) (a .s) (record { across = h; down = row }) ∙ r .spans x h;
       room = room-down (a .ram .now) (a .s) (a .t) f (l .ram) (l .y) (l .c) (l .inv .0);
     }
 
