@@ -1,7 +1,7 @@
 -- Laws of two planes in a word: a step to the right adds the pair of their a, and on a screen the word reads as both planes do. The upper
 -- one is affine modulo 2^32; the lower one, reduced, stays below 2^32 from column 0 of row 0 on, and has the plane's bits 16 to 20.
 use Prim.Native.Nat.{ℕ, _+_, _*_, _/_, _%_, _^_, _≤_, _<_}
-use mathlib.Core.Path.{_≡_, refl, sym, _∙_, ap, ap₂}
+use mathlib.Core.Path.{_≡_, sym, _∙_, ap, ap₂}
 use native.Mathlib.Nat.{mul-add, mul-one, mul-le-mul}
 use native.Mathlib.Omega.{arith}
 use lib.IntN.{ℤ}

@@ -6,19 +6,18 @@ use mathlib.Core.Path.{_≡_, refl, _∙_, sym, ap, subst}
 use mathlib.Core.Logic.{_⊎_, inl, inr}
 use mathlib.Core.Bool.{Bool, true, false}
 use mathlib.Core.List.{List}
-use native.Mathlib.Nat.{add-zero}
 use native.Mathlib.Omega.{arith}
 use lib.Count.{ones}
 use lib.Dec.{ltb}
 use lib.ListN.{length}
-use borrow.Author.Tests.{lt-ltb, le-ltb, ltb-true, ltb-false}
+use borrow.Author.Tests.{lt-ltb, ltb-true, ltb-false}
 use Rattle.rules.specs.declared.Screen.{Screen}
 use Rattle.rules.specs.declared.Triangle.{Triangle}
 use Rattle.rules.specs.Folds.{upto, howMany}
 use Rattle.rules.specs.Sizes.{width, sound}
 use Rattle.rules.specs.Triangles.{sample, insideAll, covered, written, pixelDrawn, rowDrawn}
 use Rattle.rules.proofs.Folds.{upto-add, upto-still, upto-keeps, howMany-add, howMany-none, howMany-same, howMany-le}
-use Rattle.rules.proofs.Pixels.{Sound, On, sound-facts, width-le}
+use Rattle.rules.proofs.Pixels.{On, sound-facts, width-le}
 use Rattle.rules.proofs.Drawing.{length-pixel, written-left}
 use Rattle.cover.specs.declared.masks.Masks.{Masks}
 use Rattle.cover.specs.Mask.{MasksOf}
@@ -27,7 +26,7 @@ use Rattle.cover.proofs.Columns.{span-within, span-before, span-beyond}
 use Rattle.cover.proofs.Mask.{masks-joined, masks-ones, masks-same}
 use Rattle.draw.specs.declared.Counts.{Counts}
 use Rattle.draw.specs.Pixels.{chunkAt, chunkFrom, WordAsked, WordDone}
-use Rattle.draw.specs.Rows.{Room, ChunkAsked, ChunkDone, RowAsked, RowDone}
+use Rattle.draw.specs.Rows.{ChunkAsked, ChunkDone, RowAsked, RowDone}
 use Rattle.draw.proofs.Stretch.{covered-on, not-written, pixel-still}
 
 -- on the screen, covered is inside

@@ -11,9 +11,9 @@ use lib.Dec.{leb}
 use lib.ListN.{length}
 use Rattle.rules.specs.declared.Screen.{Screen}
 use Rattle.rules.specs.declared.Triangle.{Triangle}
-use Rattle.rules.specs.Folds.{bit, upto, howMany, choose}
+use Rattle.rules.specs.Folds.{bit, howMany, choose}
 use Rattle.ram.specs.Ram.{loadHalf, storeHalf}
-use Rattle.rules.specs.Sizes.{width, height, colourAt, depthAt, putPixel}
+use Rattle.rules.specs.Sizes.{colourAt, depthAt, putPixel}
 use Rattle.rules.specs.Triangles.{triangleDepth, triangleColour, covered, written, pixelDrawn}
 use Rattle.rules.proofs.Folds.{upto-none, upto-more, upto-add, upto-still, howMany-none, howMany-more, howMany-add, howMany-le}
 use Rattle.rules.proofs.Strips.{colour-in-area, depth-in-area}

@@ -1,7 +1,5 @@
 -- The mask of 64 columns has the four masks as its digits, each below 2^16.
-use Prim.Native.Nat.{ℕ, _+_, _<_}
-use mathlib.Core.Path.{_≡_}
-use mathlib.Core.Bool.{Bool}
+use Prim.Native.Nat.{_+_, _<_}
 use native.Mathlib.Omega.{arith}
 use Rattle.cover.specs.Mask.{maskOf}
 use Rattle.cover.specs.Spans.{inSpan}

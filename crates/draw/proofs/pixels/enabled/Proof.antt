@@ -1,6 +1,6 @@
 -- The loop's invariant is `Turn`: what holds after some of the pixels. Its laws are the loop's needs. The loop has the places and not the
 -- screen, so the invariant is said of every screen that has them.
-use Prim.Native.Nat.{ℕ, _+_, _*_, _-_, _≤_, _<_}
+use Prim.Native.Nat.{ℕ, _+_, _*_, _-_, _<_}
 use mathlib.Core.Path.{_≡_, sym, subst₂}
 use native.Mathlib.Omega.{arith}
 use lib.ListN.{length}

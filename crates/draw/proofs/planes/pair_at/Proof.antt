@@ -1,5 +1,5 @@
 -- The two multiples and the constants are added modulo 2^64; each multiple's lower number stays in its half.
-use Prim.Native.Nat.{ℕ, _+_, _*_, _%_, _^_, _<_}
+use Prim.Native.Nat.{ℕ, _*_, _%_, _^_, _<_}
 use mathlib.Core.Path.{_≡_, sym, _∙_, ap, subst}
 use native.Mathlib.Omega.{arith}
 use Rattle.draw.specs.Planes.{pairOf, pairAt}

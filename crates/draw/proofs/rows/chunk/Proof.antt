@@ -1,8 +1,7 @@
 -- The masks' ones are the covered pixels, and the masks side by side the word whose pixels are drawn.
 use mathlib.Core.Path.{_≡_, ap}
-use Prim.Native.Nat.{ℕ, _+_, _≤_}
+use Prim.Native.Nat.{ℕ, _+_}
 use native.Mathlib.Omega.{arith}
-use Rattle.rules.specs.Folds.{howMany}
 use Rattle.rules.specs.Triangles.{covered}
 use Rattle.rules.proofs.Folds.{howMany-le}
 use Rattle.draw.specs.Pixels.{chunkFrom}

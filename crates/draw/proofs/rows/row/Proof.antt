@@ -1,5 +1,5 @@
 -- The loop's invariant is `Across`: what holds before column a. Its laws are the loop's needs.
-use Prim.Native.Nat.{ℕ, _+_, _-_, _%_, _<_}
+use Prim.Native.Nat.{_-_, _<_}
 use native.Mathlib.Omega.{arith}
 use Rattle.draw.proofs.Rowed.{Across, across-first, across-more, across-last, length-across, in-chunk, short, chunk-asked}
 use Rattle.draw.proofs.rows.row.Statement.{statement}
