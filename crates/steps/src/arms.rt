@@ -1,5 +1,5 @@
-// The step: one arm for each opcode. The instructions up to WRITE and those from SCRSET on are matched apart, since the first pass no screen and
-// no tree on: one match over both would copy them at each step.
+// The step: one arm for each opcode, and each arm one call. The instructions up to WRITE and those from SCRSET on are matched apart: the
+// first pass no screen and no tree on, and one match over both would copy them at each step.
 use crate::opcodes::ADD;
 use crate::opcodes::AND;
 use crate::opcodes::ASR;
@@ -85,7 +85,7 @@ use views::stop;
 ghost use Rattle.pieces.specs.Steps.{Steps, ViewSteps, plain, scene};
 ghost use Rattle.steps.specs.Fits.{PlainFits, ViewFits};
 
-// An instruction up to WRITE.
+// An instruction up to WRITE. No word reaches the last arm.
 pub fn plain_step(w: u32, regs: &mut [u32; 32], memory: &mut [u32], ram: &mut [u8], cpu: Cpu) -> Cpu
     requires { ⌜ PlainFits w (plain (now regs) cpu (now memory) (now ram)) ⌝ }
     ensures { λ r. ⌜ Steps w (plain (now (regs .entry)) cpu (now (memory .entry)) (now (ram .entry))) (plain (now (regs .exit)) r (now (memory .exit)) (now (ram .exit))) ⌝ }
@@ -130,7 +130,7 @@ pub fn plain_step(w: u32, regs: &mut [u32; 32], memory: &mut [u32], ram: &mut [u
     }
 }
 
-// An instruction from SCRSET on, or none.
+// An instruction from SCRSET on, or an opcode that has none.
 pub fn view_step(w: u32, regs: &mut [u32; 32], cpu: Cpu, view: View, ram: &mut [u8]) -> Turn
     requires { ⌜ ViewFits w (scene (now regs) cpu view (now ram)) ⌝ }
     ensures { λ r. ⌜ ViewSteps w (scene (now (regs .entry)) cpu view (now (ram .entry))) (scene (now (regs .exit)) (r .cpu) (r .view) (now (ram .exit))) ⌝ }
