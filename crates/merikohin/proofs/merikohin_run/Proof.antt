@@ -45,7 +45,6 @@ run-accepted-requires : tie.Need-run-accepted-requires
 run-accepted-requires c κs =
     let test = c .before .before in
     let judged = test .before in
-    let given = judged .before .state-of in
     sym (judged .machine-number .ensures) ∙ test .if1 .left
 
 lent-state-requires : tie.Need-lent-state-requires
@@ -63,8 +62,9 @@ returns-2 c =
     let done = kept .before .before in
     let test = done .before .before .before in
     let judged = test .before in
-    let given = judged .before .state-of in
-    let s = judged .before .before .before .before .before in
+    let entered = judged .before in
+    let given = entered .state-of in
+    let s = entered .before .before .before .before in
     let number = judged .machine-number .result in
     let after = done .run-accepted .result .state in
     record {
