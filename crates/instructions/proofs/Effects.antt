@@ -11,7 +11,9 @@ use Rattle.instructions.specs.Opcodes.{ST, ASRI, JMP, CALL, JGEL, DOT, R
 use Rattle.instructions.specs.Words.{opcode}
 use Rattle.instructions.specs.Arithmetic.{setsFlags}
 use Rattle.instructions.specs.Jumps.{isJump}
-use Rattle.instructions.specs.Step.{Machine, withRegisters, withPlace, withFlags, withScreen, withTree, afterResult, afterST, afterCALL, afterREAD, afterWRITE, afterSCRSET, afterCLS, afterTREESET, grown, afterTREEIN, afterTREEVAL, afterTREEPUT, effect, performed}
+use Rattle.instructions.specs.Step.{Machine, withRegisters, withPlace, withFlags, withScreen, withTree}
+use Rattle.instructions.specs.Step.{afterResult, afterST, afterCALL, afterREAD, afterWRITE, afterSCRSET, afterCLS}
+use Rattle.instructions.specs.Step.{afterTREESET, grown, afterTREEIN, afterTREEVAL, afterTREEPUT, effect, performed}
 use Rattle.instructions.proofs.Picks.{pick}
 
 -- P holds after each instruction; from WRITE on, the opcode is told with it
@@ -115,7 +117,8 @@ module _ (m : Machine) (w : ℕ) where
 
 -- a step that is carried out leaves the halt number
 pub effect-halt : (m : Machine) (w : ℕ) → effect m w .state .halt ≡ m .state .halt
-unfolding afterResult afterST afterCALL afterREAD afterWRITE afterSCRSET afterCLS afterTREESET grown afterTREEIN afterTREEVAL afterTREEPUT withRegisters withFlags withScreen withTree
+unfolding afterResult afterST afterCALL afterREAD afterWRITE afterSCRSET afterCLS
+    afterTREESET grown afterTREEIN afterTREEVAL afterTREEPUT withRegisters withFlags withScreen withTree
 effect-halt m w =
     effect-has (λ k. k .state .halt ≡ m .state .halt) m w
     (record {

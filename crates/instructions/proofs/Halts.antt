@@ -11,7 +11,8 @@ use Rattle.instructions.specs.declared.State.{State}
 use Rattle.instructions.specs.Opcodes.{LD, ST, DOT, SCRSET, CLS, TREESET, TREEIN, TREEVAL, TREEPUT, noInstruction}
 use Rattle.instructions.specs.Words.{opcode, imm, inR1, inR2, inR3, address}
 use Rattle.instructions.specs.Tree.{refusesPlace}
-use Rattle.instructions.specs.Halts.{wordAt, pastProgram, outsideData, isMove, moveOutsideData, moveOutsideRam, screenSet, noScreen, noTree, wordHalt, haltNumber}
+use Rattle.instructions.specs.Halts.{wordAt, pastProgram, outsideData, isMove, moveOutsideData, moveOutsideRam}
+use Rattle.instructions.specs.Halts.{screenSet, noScreen, noTree, wordHalt, haltNumber}
 use Rattle.instructions.specs.Run.{isHaltNumber}
 use Rattle.instructions.proofs.Picks.{pick, no-row, or-none}
 

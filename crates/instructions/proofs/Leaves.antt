@@ -11,7 +11,8 @@ use Rattle.rules.specs.declared.Screen.{Screen}
 use Rattle.rules.specs.Triangles.{topHalf, positive, negative}
 use Rattle.instructions.specs.declared.Tree.{Tree}
 use Rattle.instructions.specs.Words.{keep32, signed}
-use Rattle.instructions.specs.Tree.{each, leaves, markI, markO, leafColour, leafDepth, maskBit, treeSet, leafValue, pastLeaves, marked, treeIn, deepened, tooDeep, treeDepth, replaced, treeColour, treeVal}
+use Rattle.instructions.specs.Tree.{each, leaves, markI, markO, leafColour, leafDepth, maskBit, treeSet, leafValue, pastLeaves}
+use Rattle.instructions.specs.Tree.{marked, treeIn, deepened, tooDeep, treeDepth, replaced, treeColour, treeVal}
 
 module _ {A : Type 0} where
   pub length-each : (f : ℕ → A) (n : ℕ) → length (each f n) ≡ n

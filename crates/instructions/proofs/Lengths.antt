@@ -14,9 +14,12 @@ use Rattle.rules.proofs.Pixels.{length-putPixel}
 use Rattle.instructions.specs.declared.Tree.{Tree}
 use Rattle.ram.proofs.Words.{length-storeWord}
 use Rattle.instructions.specs.Moves.{wordRead, wordsRead, wordWritten, wordsWritten}
-use Rattle.instructions.specs.Tree.{maskBit, treeSet, marked, treeIn, deepened, treeDepth, treeColour, treeVal, isPut, leafPut, treePut}
+use Rattle.instructions.specs.Tree.{maskBit, treeSet, marked, treeIn, deepened, treeDepth, treeColour, treeVal}
+use Rattle.instructions.specs.Tree.{isPut, leafPut, treePut}
 use Rattle.instructions.specs.Halts.{wordAt}
-use Rattle.instructions.specs.Step.{Machine, withRegisters, withPlace, withFlags, withHalt, withScreen, withTree, afterResult, afterST, afterCALL, afterREAD, afterWRITE, afterSCRSET, afterCLS, afterTREESET, grown, afterTREEIN, afterTREEVAL, afterTREEPUT, effect, performed, isHalted, nextHalt, step}
+use Rattle.instructions.specs.Step.{Machine, step, withRegisters, withPlace, withFlags, withHalt, withScreen, withTree, grown}
+use Rattle.instructions.specs.Step.{afterResult, afterST, afterCALL, afterREAD, afterWRITE, afterSCRSET, afterCLS}
+use Rattle.instructions.specs.Step.{afterTREESET, afterTREEIN, afterTREEVAL, afterTREEPUT, effect, performed, isHalted, nextHalt}
 use Rattle.instructions.specs.Run.{run}
 use Rattle.instructions.proofs.Picks.{pick}
 use Rattle.instructions.proofs.Leaves.{length-each}
@@ -71,7 +74,8 @@ same : (m : Machine) → SameLengths m m
 same m = record { memory = refl; ram = refl; registers = refl }
 
 effect-keeps-lengths : (m : Machine) (w : ℕ) → SameLengths m (effect m w)
-unfolding afterResult afterST afterCALL afterREAD afterWRITE afterSCRSET afterCLS afterTREESET grown afterTREEIN afterTREEVAL afterTREEPUT withRegisters withFlags withScreen withTree
+unfolding afterResult afterST afterCALL afterREAD afterWRITE afterSCRSET afterCLS
+    afterTREESET grown afterTREEIN afterTREEVAL afterTREEPUT withRegisters withFlags withScreen withTree
 effect-keeps-lengths m w =
     effect-has (SameLengths m) m w
     (record {

@@ -1,5 +1,5 @@
--- What the signed operations mean, said by products and order alone, since `toZ`, `shrZ` and `quotZ` are the prover's own: a word from 2^31 on
--- is read as itself less 2^32, MULF and ASR round down, and RECP rounds toward zero.
+-- What the signed operations mean, said by products and order alone, since `toZ`, `shrZ` and `quotZ` are the prover's own: a word from
+-- 2^31 on is read as itself less 2^32, MULF and ASR round down, and RECP rounds toward zero.
 use Prim.Native.Nat.{ℕ, zero, suc, _+_, _-_, _*_, _/_, _^_, _≤_, _<_}
 use mathlib.Core.Path.{_≡_, refl, sym, ap, subst}
 use mathlib.Core.Logic.{_≢_}

@@ -9,7 +9,8 @@ use Rattle.instructions.specs.Words.{opcode, r1, imm, inR1, inR2, inR3, 
 use Rattle.instructions.specs.Jumps.{nextPlace}
 use Rattle.instructions.specs.Tree.{pastLeaves, treeSet, treeIn, treeVal}
 use Rattle.instructions.specs.Halts.{wordAt}
-use Rattle.instructions.specs.Step.{Machine, withRegisters, withPlace, withTree, grown, afterTREESET, afterTREEIN, afterTREEVAL, effect, performed, step}
+use Rattle.instructions.specs.Step.{Machine, withRegisters, withPlace, withTree}
+use Rattle.instructions.specs.Step.{grown, afterTREESET, afterTREEIN, afterTREEVAL, effect, performed, step}
 use Rattle.instructions.specs.Run.{isCounted}
 use Rattle.instructions.proofs.Effects.{effect-TREESET, effect-TREEIN, effect-TREEVAL}
 use Rattle.instructions.proofs.Run.{step-counted}

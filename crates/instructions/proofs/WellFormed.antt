@@ -15,11 +15,14 @@ use Rattle.instructions.specs.Opcodes.{TREESET}
 use Rattle.instructions.specs.Words.{opcode, inR1, inR2, inR3, register, withRegister}
 use Rattle.instructions.specs.Tree.{refusesPlace, treeSet, marked, treeIn, deepened, treeDepth, treeColour, treeVal}
 use Rattle.instructions.specs.Halts.{wordAt}
-use Rattle.instructions.specs.Step.{Machine, withRegisters, withPlace, withFlags, withHalt, withScreen, withTree, afterResult, afterST, afterCALL, afterREAD, afterWRITE, afterSCRSET, afterCLS, afterTREESET, grown, afterTREEIN, afterTREEVAL, afterTREEPUT, effect, performed, isHalted, nextHalt, step}
+use Rattle.instructions.specs.Step.{Machine, step, withRegisters, withPlace, withFlags, withHalt, withScreen, withTree, grown}
+use Rattle.instructions.specs.Step.{afterResult, afterST, afterCALL, afterREAD, afterWRITE, afterSCRSET, afterCLS}
+use Rattle.instructions.specs.Step.{afterTREESET, afterTREEIN, afterTREEVAL, afterTREEPUT, effect, performed, isHalted, nextHalt}
 use Rattle.instructions.specs.Run.{run, isHaltNumber, illFormed, machineNumber, runNumber, freshState}
 use Rattle.instructions.proofs.Picks.{pick, no-row, or-none, and-none, none-and}
 use Rattle.instructions.proofs.Registers.{write-keeps-zero}
-use Rattle.instructions.proofs.Halts.{NoHalt, goes-on, halt-known, SCRSET-sound, TREESET-shown, TREESET-place, TREEIN-planted, TREEVAL-planted}
+use Rattle.instructions.proofs.Halts.{NoHalt, goes-on, halt-known}
+use Rattle.instructions.proofs.Halts.{SCRSET-sound, TREESET-shown, TREESET-place, TREEIN-planted, TREEVAL-planted}
 use Rattle.instructions.proofs.Effects.{effect-has}
 use Rattle.instructions.proofs.Lengths.{SameLengths, step-keeps-lengths, run-keeps-lengths}
 

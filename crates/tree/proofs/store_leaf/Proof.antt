@@ -19,11 +19,13 @@ same-length c = search needs
 returns : tie.Need-returns
 unfolding stored
 returns c =
-    let a = c .before .before .before .before .before .before .before .before .before .before .args in
-    let held : a .held ≡ true = c .before .before .before .before .if1 .taken in
+    let test = c .before .before .before .before in
+    let coloured = test .before .before .before in
+    let a = coloured .before .before .before .args in
+    let held : a .held ≡ true = test .if1 .taken in
     rw held
     (c .before .before .store-half2 .ensures
-    ∙ ap (λ m. storeHalf m (a .depth) (a .d)) (c .before .before .before .before .before .before .before .store-half .ensures))
+    ∙ ap (λ m. storeHalf m (a .depth) (a .d)) (coloured .store-half .ensures))
 
 same-length-2 : tie.Need-same-length-2
 same-length-2 c = search needs
@@ -31,8 +33,9 @@ same-length-2 c = search needs
 returns-2 : tie.Need-returns-2
 unfolding stored
 returns-2 c =
-    let none : c .before .before .before .before .before .before .args .held ≡ false = c .if1 .left in
-    rw none (c .before .before .before .store-half .ensures)
+    let coloured = c .before .before .before in
+    let none : coloured .before .before .before .args .held ≡ false = c .if1 .left in
+    rw none (coloured .store-half .ensures)
 
 pub store-leaf-spec : {M : Type 1} → statement M
 store-leaf-spec =

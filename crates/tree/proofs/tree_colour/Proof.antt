@@ -48,9 +48,11 @@ loop-less c = omega arith
 
 loop-again : tie.Need-loop-again Inv-loop μ-loop
 loop-again c =
-    let a = c .before .before .before .before .before .before .before .before .args in
-    let l = c .before .before .before .loop in
-    let h = c .before .before .loop-test .taken in
+    let test = c .before .before in
+    let copied = test .before .before in
+    let a = copied .before .before .before .before .args in
+    let l = test .before .loop in
+    let h = test .loop-test .taken in
     let up = l .inv .1 in (
       omega arith,
       value-next (a .a) (a .b) (l .k) up (c .before .sum32 .ensures),
@@ -61,8 +63,9 @@ loop-again c =
 returns : tie.Need-returns Inv-loop μ-loop
 unfolding treeColour
 returns c =
+    let copied = c .before .before in
+    let t = copied .before .before .before .before .args .tree in
     let l = c .before .loop in
-    let t = c .before .before .before .before .before .before .args .tree in
     let e : l .k ≡ 16 = omega arith in
     λ i. record {
       column = t .column;

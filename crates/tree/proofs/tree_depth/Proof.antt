@@ -33,17 +33,23 @@ Inv-loop ram tree a b inside₀ outside₀ colour depth₀ first found v₀ k₀
 abbrev μ-loop : tie.MeasureT-loop
 μ-loop ram tree a b inside₀ outside₀ colour depth₀ first found v₀ k₀ inside outside depth v k = 16 - k
 
+-- the call's start, from where the first leaf's half-word is known
+abbrev start-of : tie.After-depth-at Inv-loop μ-loop → tie.Start Inv-loop μ-loop
+start-of c =
+    let copied = c .before in
+    let lent = copied .before .before .before .before in
+    lent .before
+
 depth-at-requires : tie.Need-depth-at-requires Inv-loop μ-loop
 depth-at-requires c κs = search needs
 
 load-halves-requires : tie.Need-load-halves-requires Inv-loop μ-loop
 load-halves-requires c κs =
-    let q = c .before .before .before .before .before .before in
-    let a = q .args in
+    let start = start-of c in
     omega (
       arith,
-      depth-from (q .pre) {k = 15} (c .depth-at .ensures) (omega arith),
-      depth-leaf-fits (q .pre) {k = 15} (omega arith),
+      depth-from (start .pre) {k = 15} (c .depth-at .ensures) (omega arith),
+      depth-leaf-fits (start .pre) {k = 15} (omega arith),
     )
 
 loop-holds : tie.Need-loop-holds Inv-loop μ-loop
@@ -60,7 +66,7 @@ sum32-requires c κs = search needs
 
 cast-z : tie.Need-cast-z Inv-loop μ-loop
 cast-z c =
-    let a = c .before .before .before .before .before .before .before .before .before .before .args in
+    let a = start-of (c .before .before .before .before) .args in
     let l = c .before .before .loop in
     omega (arith, l .inv .1, value-small (a .a) (a .b) (l .k))
 
@@ -97,13 +103,15 @@ loop-less c = omega arith
 loop-again : tie.Need-loop-again Inv-loop μ-loop
 unfolding topHalf
 loop-again c =
-    let a = c .before .before .before .before .before .before .before .before .before .before .args in
+    let loaded = c .before .before .before in
+    let placed = loaded .before in
+    let a = start-of placed .args in
     let l = c .before .before .loop in
     let h = c .before .loop-test .taken in
     let up = l .inv .1 in
-    let first = c .before .before .before .before .depth-at .result in
+    let first = placed .depth-at .result in
     let found =
-    ap (λ t. getD t (l .k) 0) (c .before .before .before .load-halves .ensures)
+    ap (λ t. getD t (l .k) 0) (loaded .load-halves .ensures)
     ∙ leaf-at (λ i. loadHalf (a .ram .now) (first + 2 * i)) 0 h in
     let judged = ap₂ (λ (d v : ℕ). ltb d (v / 65536)) found up in (
       omega arith,
@@ -117,15 +125,16 @@ returns : tie.Need-returns Inv-loop μ-loop
 unfolding treeDepth marked deepened
 returns c =
     let l = c .before .loop in
-    let q = c .before .before .before .before .before .before .before .before .before in
-    let a = q .args in
+    let placed = c .before .before .before in
+    let start = start-of placed in
+    let a = start .args in
     let t = a .tree in
     let e : l .k ≡ 16 = omega arith in
     let at : (k : ℕ)
     → k < 16
-    → deep (a .ram .now) (a .a) (a .b) k (c .before .before .before .depth-at .result + 2 * k)
+    → deep (a .ram .now) (a .a) (a .b) k (placed .depth-at .result + 2 * k)
     ≡ tooDeep (a .s) (a .ram .now) (a .a) (a .b) t k =
-    λ k h. ap (deep (a .ram .now) (a .a) (a .b) k) (depth-from (q .pre) (c .before .before .before .depth-at .ensures) h) in
+    λ k h. ap (deep (a .ram .now) (a .a) (a .b) k) (depth-from (start .pre) (placed .depth-at .ensures) h) in
     λ i. record {
       column = t .column;
       row = t .row;

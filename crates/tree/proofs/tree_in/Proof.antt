@@ -55,9 +55,11 @@ loop-less c = omega arith
 
 loop-again : tie.Need-loop-again Inv-loop μ-loop
 loop-again c =
-    let a = c .before .before .before .before .before .before .before .before .before .args in
-    let l = c .before .before .before .before .loop in
-    let h = c .before .before .before .loop-test .taken in
+    let test = c .before .before .before in
+    let copied = test .before .before in
+    let a = copied .before .before .before .before .args in
+    let l = test .before .loop in
+    let h = test .loop-test .taken in
     let up = l .inv .1 in
     let cleared = c .before .positive .ensures ∙ ap (λ v. positive (signed v)) up in
     let marked = c .negative .ensures ∙ ap (λ v. negative (signed v)) up in (
@@ -70,8 +72,9 @@ loop-again c =
 returns : tie.Need-returns Inv-loop μ-loop
 unfolding treeIn marked
 returns c =
+    let copied = c .before .before in
+    let t = copied .before .before .before .before .args .tree in
     let l = c .before .loop in
-    let t = c .before .before .before .before .before .before .args .tree in
     let e : l .k ≡ 16 = omega arith in
     λ i. record {
       column = t .column;

@@ -29,19 +29,22 @@ Inv-loop ram₀ tree colour depth k₀ ram k =
 abbrev μ-loop : tie.MeasureT-loop
 μ-loop ram₀ tree colour depth k₀ ram k = 16 - k
 
+-- the call's start, from where the first leaf's half-words are known
+abbrev start-of : tie.After-depth-at Inv-loop μ-loop → tie.Start Inv-loop μ-loop
+start-of c = c .before .before .before
+
 -- the leaf's half-words are in the RAM
 fits : (c : tie.In-loop Inv-loop μ-loop)
-    → (c .before .before .before .colour-at .result + 2 * c .before .loop .k + 1 < length (c .before .loop .ram))
-    × (c .before .before .depth-at .result + 2 * c .before .loop .k + 1 < length (c .before .loop .ram))
+    → let l = c .before .loop in
+    let placed = c .before .before in
+    (placed .before .colour-at .result + 2 * l .k + 1 < length (l .ram)) × (placed .depth-at .result + 2 * l .k + 1 < length (l .ram))
 fits c =
-    let q = c .before .before .before .before .before in
-    let a = q .args in
     let l = c .before .loop in
+    let placed = c .before .before in
+    let start = start-of placed in
     let h = c .loop-test .taken in (
-      rw (l .inv .1, colour-from (q .pre) (c .before .before .before .colour-at .ensures) h)
-          (colour-leaf-fits (q .pre) h),
-      rw (l .inv .1, depth-from (q .pre) (c .before .before .depth-at .ensures) h)
-          (depth-leaf-fits (q .pre) h),
+      rw (l .inv .1, colour-from (start .pre) (placed .before .colour-at .ensures) h) (colour-leaf-fits (start .pre) h),
+      rw (l .inv .1, depth-from (start .pre) (placed .depth-at .ensures) h) (depth-leaf-fits (start .pre) h),
     )
 
 colour-at-requires : tie.Need-colour-at-requires Inv-loop μ-loop
@@ -84,7 +87,9 @@ element-copy-out-store-leaf-2 : tie.Need-element-copy-out-store-leaf-2 Inv-loop 
 element-copy-out-store-leaf-2 c = search needs
 
 store-leaf-requires : tie.Need-store-leaf-requires Inv-loop μ-loop
-store-leaf-requires c κs = fits (c .before .before .before .before .before .before)
+store-leaf-requires c κs =
+    let picked = c .before .before .before in
+    fits (picked .before .before .before)
 
 add-k : tie.Need-add-k Inv-loop μ-loop
 add-k c = omega arith
@@ -94,17 +99,17 @@ loop-less c = omega arith
 
 -- one more leaf, put or not
 put-more : (c : tie.Joined1 Inv-loop μ-loop)
-    → (length (c .if1 .ram) ≡ length (c .before .before .before .before .loop .ram))
-    × (c .if1 .ram
-    ≡ leafAt
-    (c .before .before .before .before .before .before .before .before .args .t3)
-    (c .before .before .before .before .before .before .colour-at .result + 2 * c .before .before .before .before .loop .k)
-    (c .before .before .before .before .before .depth-at .result + 2 * c .before .before .before .before .loop .k)
-    (c .before .before .before .before .loop .k)
-    (c .before .before .before .before .loop .ram))
+    → let loop = c .before .before .before .before in
+    let l = loop .loop in
+    let placed = loop .before in
+    let colour = placed .before .colour-at .result in
+    let depth = placed .depth-at .result in
+    (length (c .if1 .ram) ≡ length (l .ram))
+    × (c .if1 .ram ≡ leafAt (start-of placed .args .t3) (colour + 2 * l .k) (depth + 2 * l .k) (l .k) (l .ram))
 put-more c =
-    let t = c .before .before .before .before .before .before .before .before .args .t3 in
-    let k = c .before .before .before .before .loop .k in
+    let loop = c .before .before .before .before in
+    let t = start-of (loop .before) .args .t3 in
+    let k = loop .loop .k in
     ⊎-elim
     (λ w.
     let put : isPut t k ≡ true = w .0 .taken in
@@ -116,16 +121,18 @@ put-more c =
 
 loop-again : tie.Need-loop-again Inv-loop μ-loop
 loop-again c =
-    let t = c .before .before .before .before .before .before .before .before .args .t3 in
-    let ram = c .before .before .before .before .before .before .before .before .args .ram .now in
-    let l = c .before .before .before .before .loop in
-    let colour = c .before .before .before .before .before .before .colour-at .result in
-    let depth = c .before .before .before .before .before .depth-at .result in (
+    let loop = c .before .before .before .before in
+    let l = loop .loop in
+    let placed = loop .before in
+    let a = start-of placed .args in
+    let t = a .t3 in
+    let colour = placed .before .colour-at .result in
+    let depth = placed .depth-at .result in (
       omega arith,
       put-more c .0 ∙ l .inv .1,
       put-more c .1
           ∙ ap (leafAt t (colour + 2 * l .k) (depth + 2 * l .k) (l .k)) (l .inv .2)
-          ∙ sym (upto-more (λ i. leafAt t (colour + 2 * i) (depth + 2 * i) i) (l .k) ram),
+          ∙ sym (upto-more (λ i. leafAt t (colour + 2 * i) (depth + 2 * i) i) (l .k) (a .ram .now)),
     )
 
 same-length : tie.Need-same-length Inv-loop μ-loop
@@ -135,15 +142,16 @@ returns : tie.Need-returns Inv-loop μ-loop
 unfolding treePut leafPut putPixel stored
 returns c =
     let l = c .before .loop in
-    let q = c .before .before .before .before .before in
-    let a = q .args in
+    let placed = c .before .before in
+    let start = start-of placed in
+    let a = start .args in
     let t = a .t3 in
     let e : l .k ≡ 16 = omega arith in
     (rw e at (l .inv .2))
     ∙ upto-same _ (leafPut (a .s) t) 16 (a .ram .now)
     (λ k m h. ap₂ (λ (colour depth : ℕ). leafAt t colour depth k m)
-    (colour-from (q .pre) (c .before .before .before .colour-at .ensures) h)
-    (depth-from (q .pre) (c .before .before .depth-at .ensures) h))
+    (colour-from (start .pre) (placed .before .colour-at .ensures) h)
+    (depth-from (start .pre) (placed .depth-at .ensures) h))
 
 pub tree-put-spec : {M : Type 1} → statement M
 tree-put-spec =
