@@ -14,10 +14,11 @@ use Rattle.rules.specs.Triangles.{sample, insideAll, covered, written, pixelDra
 use Rattle.rules.proofs.Folds.{upto-none, upto-more, upto-still, howMany-none, howMany-same, pixels-more, pixels-le}
 use Rattle.rules.proofs.Pixels.{Sound, width-le, height-le}
 use Rattle.rules.proofs.Drawing.{length-rows, written-rows}
-use Rattle.draw.specs.declared.Counts.{Counts}
-use Rattle.draw.specs.Rows.{Room, RowDone, FrameDone}
-use Rattle.draw.proofs.Stretch.{not-written, pixel-still}
-use Rattle.draw.proofs.Rowed.{outside-uncovered}
+use Rattle.rows.specs.declared.Counts.{Counts}
+use Rattle.rows.specs.Rows.{Room, RowDone}
+use Rattle.draw.specs.Frames.{FrameDone}
+use Rattle.rows.proofs.Stretch.{not-written, pixel-still}
+use Rattle.rows.proofs.Rowed.{outside-uncovered}
 
 pub record Down (m₀ : List ℕ) (s : Screen) (t : Triangle) (m : List ℕ) (y : ℕ) (c : Counts) : Type 0 where
   pub before-end : y ≤ height (s .size)

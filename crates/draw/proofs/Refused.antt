@@ -15,8 +15,8 @@ use Rattle.rules.specs.Triangles.{coveredPixels, writtenPixels, drawn}
 use Rattle.rules.specs.Calls.{Draws}
 use Rattle.rules.proofs.Choices.{accepted-no, accepted-yes}
 use Rattle.rules.proofs.Refusals.{ScreenPasses, screen-passed, screen-refuses, others-follow, screen-number-passed}
-use Rattle.draw.specs.declared.Counts.{Counts}
-use Rattle.draw.specs.Rows.{FrameAsked, FrameDone}
+use Rattle.rows.specs.declared.Counts.{Counts}
+use Rattle.draw.specs.Frames.{FrameAsked, FrameDone}
 
 module _ (n : ℕ) (s : Screen) (t : Triangle) where
   abbrev pub others : ℕ

@@ -1,4 +1,2 @@
 -- The vocabulary of this crate's interior contracts.
-pub mod Planes
-pub mod Pixels
-pub mod Rows
+pub mod Frames

@@ -1,17 +1,17 @@
 // A frame, row by row.
-use crate::Counts;
-use crate::rows::row;
 use crate::touched::touched_rows;
 use cover::crossed::crossings_at;
 use cover::crossed::crossings_below;
 use cover::setup::sides;
 use cover::spans::row_span;
+use rows::Counts;
+use rows::chunks::row;
 use rules::Screen;
 use rules::Triangle;
 use screen::sizes::height;
 use screen::sizes::width;
 ghost use lib.ListN.{length};
-ghost use Rattle.draw.specs.Rows.{FrameAsked, FrameDone};
+ghost use Rattle.draw.specs.Frames.{FrameAsked, FrameDone};
 
 // The rows that the triangle can touch. It answers how many pixels were covered and how many written.
 pub fn frame(ram: &mut [u8], s: Screen, t: Triangle) -> Counts

@@ -6,7 +6,7 @@ use rules::Vertices;
 ghost use mathlib.Core.Path.{_≡_};
 ghost use mathlib.Core.Bool.{true};
 ghost use Rattle.rules.specs.Numbers.{verticesInRange};
-ghost use Rattle.draw.specs.Rows.{Clipped, RowsTouched};
+ghost use Rattle.draw.specs.Frames.{Clipped, RowsTouched};
 
 // The places from `first` to `past`, as far as they are below `limit`.
 fn clipped(first: u32, past: u32, limit: u32) -> Span

@@ -11,7 +11,7 @@ use Rattle.rules.proofs.Pixels.{sound-facts, width-le, height-le}
 use Rattle.cover.specs.Side.{CrossingsOf}
 use Rattle.cover.specs.Spans.{RowSpan}
 use Rattle.cover.proofs.Crossing.{crossings-can-go-below}
-use Rattle.draw.proofs.Rowed.{covered-is}
+use Rattle.rows.proofs.Rowed.{covered-is}
 use Rattle.draw.proofs.Framed.{Down, down-none, down-skip, down-more, down-last, length-down, room-down}
 use Rattle.draw.proofs.frames.frame.Statement.{statement}
 use Rattle.draw.proofs.frames.frame.Tie as tie

@@ -1,0 +1,2 @@
+-- The vocabulary of this crate's contracts.
+pub mod Planes

@@ -1,0 +1,3 @@
+-- The vocabulary of this crate's interior contracts.
+pub mod Pixels
+pub mod Rows
