@@ -12,9 +12,9 @@ use Rattle.rules.specs.Sizes.{width, height, sound}
 use Rattle.rules.specs.Numbers.{verticesInRange}
 use Rattle.rules.specs.Triangles.{sample, insideAll, covered, written, pixelDrawn, rowDrawn, drawn, coveredPixels, writtenPixels}
 use Rattle.cover.specs.declared.Span.{Span}
-use Rattle.cover.specs.declared.masks.Masks.{Masks}
-use Rattle.cover.specs.Mask.{MasksOf}
-use Rattle.cover.specs.Spans.{inSpan}
+use Rattle.masks.specs.declared.Masks.{Masks}
+use Rattle.masks.specs.Mask.{MasksOf}
+use Rattle.masks.specs.Span.{inSpan}
 use Rattle.draw.specs.declared.Counts.{Counts}
 use Rattle.draw.specs.Pixels.{chunkAt, chunkFrom}
 
