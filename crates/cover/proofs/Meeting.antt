@@ -16,9 +16,9 @@ use Rattle.cover.specs.declared.Crossings.{Crossings}
 use Rattle.cover.specs.Units.{unit, raise}
 use Rattle.cover.specs.Side.{SideOf, SidesOf, CrossingOf, CrossingsOf}
 use Rattle.cover.specs.Spans.{begin, end, column, RowSpan}
+use Rattle.masks.proofs.Columns.{span-beyond}
 use Rattle.edges.proofs.Within.{EdgeWithin, edge-within, edges-in-range}
 use Rattle.cover.proofs.Crossing.{crossing-inside}
-use Rattle.cover.proofs.Columns.{span-beyond}
 
 -- of two crossings
 

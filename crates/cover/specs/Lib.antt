@@ -1,7 +1,4 @@
--- The vocabulary of this crate's contracts: quotients rounded up, what a side and a crossing hold, a row's span, and which leaves a
--- mask names.
+-- The vocabulary of this crate's contracts: quotients rounded up, what a side and a crossing hold, and a row's span.
 pub mod Units
 pub mod Side
 pub mod Spans
-pub mod Mask
-pub mod Extent

@@ -1,17 +1,14 @@
--- Spans of columns, and which one is a row's.
+-- Which span of columns is a row's.
 use Prim.Native.Nat.{ℕ, _+_, _-_, _/_, _≤_, _<_}
 use mathlib.Core.Path.{_≡_}
-use mathlib.Core.Bool.{Bool, _&&_}
-use lib.Dec.{ltb, leb}
+use mathlib.Core.Bool.{Bool}
+use lib.Dec.{ltb}
 use Rattle.rules.specs.declared.Vertices.{Vertices}
 use Rattle.rules.specs.Folds.{choose}
 use Rattle.rules.specs.Triangles.{sample, insideAll}
+use Rattle.masks.specs.Span.{inSpan}
 use Rattle.cover.specs.declared.Span.{Span}
 use Rattle.cover.specs.Units.{unit, raise}
-
--- columns from `from` up to but not including `to`
-abbrev pub inSpan : ℕ → ℕ → ℕ → Bool
-inSpan from to x = leb from x && ltb x to
 
 -- of two crossings, the one whose column is further right; one where the inside ends does not count
 abbrev pub begin : ℕ → Bool → ℕ → ℕ

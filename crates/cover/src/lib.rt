@@ -1,7 +1,5 @@
-// Which pixels of a row a triangle covers, and which leaves of a group.
+// Which pixels of a row a triangle covers.
 pub mod crossed;
-pub mod extent;
-pub mod masks;
 pub mod setup;
 pub mod spans;
 pub mod ticks;

@@ -12,9 +12,9 @@ use Rattle.ints.proofs.Bounds.{fits-32}
 use Rattle.rules.specs.declared.Vertices.{Vertices}
 use Rattle.rules.specs.Triangles.{sampleOffset, sample, insideAll}
 use Rattle.rules.specs.Numbers.{vertexInRange}
-use Rattle.cover.specs.Extent.{Before, Beyond}
+use Rattle.extent.specs.Extent.{Before, Beyond}
 use Rattle.edges.proofs.Within.{vertex-within}
-use Rattle.cover.proofs.Outside.{above, below}
+use Rattle.extent.proofs.Outside.{above, below}
 
 module _ (t : Vertices) (x y : ℕ) where
   pub row-before : Before (t .y1) (t .y2) (t .y3) y → insideAll t (sample x y) ≡ false

@@ -1,7 +1,7 @@
 // Which rows a triangle can touch on a screen.
 use cover::Span;
-use cover::extent::first_touched;
-use cover::extent::past_touched;
+use extent::first_touched;
+use extent::past_touched;
 use rules::Vertices;
 ghost use mathlib.Core.Path.{_≡_};
 ghost use mathlib.Core.Bool.{true};

@@ -19,11 +19,11 @@ use Rattle.rules.specs.Triangles.{sample, insideAll, covered, written, pixelDra
 use Rattle.rules.proofs.Folds.{upto-add, upto-still, upto-keeps, howMany-add, howMany-none, howMany-same, howMany-le}
 use Rattle.rules.proofs.Pixels.{On, sound-facts, width-le}
 use Rattle.rules.proofs.Drawing.{length-pixel, written-left}
-use Rattle.cover.specs.declared.masks.Masks.{Masks}
-use Rattle.cover.specs.Mask.{MasksOf}
-use Rattle.cover.specs.Spans.{inSpan}
-use Rattle.cover.proofs.Columns.{span-within, span-before, span-beyond}
-use Rattle.cover.proofs.Mask.{masks-joined, masks-ones, masks-same}
+use Rattle.masks.specs.declared.Masks.{Masks}
+use Rattle.masks.specs.Mask.{MasksOf}
+use Rattle.masks.specs.Span.{inSpan}
+use Rattle.masks.proofs.Columns.{span-within, span-before, span-beyond}
+use Rattle.masks.proofs.Mask.{masks-joined, masks-ones, masks-same}
 use Rattle.rows.specs.declared.Counts.{Counts}
 use Rattle.rows.specs.Pixels.{chunkAt, chunkFrom, WordAsked, WordDone}
 use Rattle.rows.specs.Rows.{ChunkAsked, ChunkDone, RowAsked, RowDone}

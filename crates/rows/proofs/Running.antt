@@ -19,7 +19,7 @@ use Rattle.rules.proofs.Folds.{upto-none, upto-more, upto-add, upto-still, howM
 use Rattle.rules.proofs.Strips.{colour-in-area, depth-in-area}
 use Rattle.rules.proofs.Pixels.{Sound, On, sound-facts, width-le, height-le, colour-depth-apart}
 use Rattle.ram.proofs.Halves.{apart-sym, storeHalf-comm}
-use Rattle.cover.proofs.Mask.{Left, left-skip, top-set, top-clear, mask-same}
+use Rattle.masks.proofs.Mask.{Left, left-skip, top-set, top-clear, mask-same}
 use Rattle.cover.proofs.Unbroken.{unbroken}
 use Rattle.planes.specs.declared.Tints.{Tints}
 use Rattle.planes.specs.Planes.{tintsAt, tintSteps, tintsMoved, tintDepth, tintColour}

@@ -10,7 +10,7 @@ use Rattle.rules.specs.Folds.{upto, bit, howMany, choose}
 use Rattle.ram.specs.Ram.{loadHalf, storeHalf}
 use Rattle.rules.specs.Sizes.{height, sound}
 use Rattle.rules.specs.Triangles.{covered, written, pixelDrawn}
-use Rattle.cover.specs.Mask.{maskOf}
+use Rattle.masks.specs.Mask.{maskOf}
 use Rattle.planes.specs.declared.Tints.{Tints}
 use Rattle.planes.specs.Planes.{tintDepth, tintColour}
 

@@ -8,9 +8,9 @@ use Rattle.rules.specs.declared.Triangle.{Triangle}
 use Rattle.rules.specs.Folds.{upto, howMany}
 use Rattle.rules.specs.Sizes.{width, height, sound}
 use Rattle.rules.specs.Triangles.{covered, written, pixelDrawn, rowDrawn}
-use Rattle.cover.specs.declared.masks.Masks.{Masks}
-use Rattle.cover.specs.Mask.{MasksOf}
-use Rattle.cover.specs.Spans.{inSpan}
+use Rattle.masks.specs.declared.Masks.{Masks}
+use Rattle.masks.specs.Mask.{MasksOf}
+use Rattle.masks.specs.Span.{inSpan}
 use Rattle.rows.specs.declared.Counts.{Counts}
 use Rattle.rows.specs.Pixels.{chunkAt, chunkFrom}
 

@@ -1,10 +1,10 @@
 // A row, in chunks of 64 columns: each chunk is counted and drawn by its four groups' masks.
 use crate::Counts;
 use crate::pixels::enabled;
-use cover::masks::Masks;
-use cover::masks::joined;
-use cover::masks::ones_of;
-use cover::masks::span_masks;
+use masks::Masks;
+use masks::joined;
+use masks::ones_of;
+use masks::span_masks;
 use rules::Screen;
 use rules::Triangle;
 ghost use mathlib.Core.Path.{_≡_};

@@ -13,9 +13,9 @@ use borrow.Author.Tests.{ltb-true, ltb-false, leb-true, leb-false}
 use Rattle.rules.specs.Folds.{bit, howMany}
 use Rattle.rules.proofs.Choices.{bit-le}
 use Rattle.rules.proofs.Folds.{howMany-add}
-use Rattle.cover.specs.declared.masks.Masks.{Masks}
-use Rattle.cover.specs.Mask.{maskOf, MasksOf}
-use Rattle.cover.specs.Spans.{inSpan}
+use Rattle.masks.specs.declared.Masks.{Masks}
+use Rattle.masks.specs.Mask.{maskOf, MasksOf}
+use Rattle.masks.specs.Span.{inSpan}
 
 one : (b : Bool) → ones (bit b) ≡ bit b
 unfolding ones onesIn

@@ -4,10 +4,10 @@ use Prim.Native.Nat.{ℕ, _+_, _-_, _/_, _^_}
 use mathlib.Core.Path.{_≡_, _∙_, ap}
 use native.Mathlib.Omega.{arith}
 use lib.Pow.{shr-shr}
-use Rattle.cover.proofs.Mask.{shifted-span}
+use Rattle.masks.proofs.Mask.{shifted-span}
 use borrow.Author.Needs.{needs}
-use Rattle.cover.proofs.masks.wide_mask.Statement.{statement}
-use Rattle.cover.proofs.masks.wide_mask.Tie as tie
+use Rattle.masks.proofs.wide_mask.Statement.{statement}
+use Rattle.masks.proofs.wide_mask.Tie as tie
 
 twice : (past : ℕ) → past - 1 + 1 ≡ past → (2 ^ 64 - 1) / 2 ^ (past - 1) / 2 ^ 1 ≡ (2 ^ 64 - 1) / 2 ^ past
 twice past e = shr-shr (2 ^ 64 - 1) (past - 1) 1 ∙ ap (λ (k : ℕ). (2 ^ 64 - 1) / 2 ^ k) e

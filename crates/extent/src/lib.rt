@@ -6,7 +6,7 @@ ghost use Prim.Native.Nat.{ℕ, _≤_, _<_};
 ghost use lib.IntN.{pos, natAbs, _+ℤ_};
 ghost use lib.Signed.{_≤ℤ_};
 ghost use Rattle.rules.specs.Numbers.{vertexInRange};
-ghost use Rattle.cover.specs.Extent.{Before, Beyond};
+ghost use Rattle.extent.specs.Extent.{Before, Beyond};
 
 // A vertex number raised, so that it is not negative.
 fn raised(v: i32, by: i64) -> u32

@@ -3,10 +3,10 @@ use Prim.Native.Nat.{ℕ, _+_, _*_, _-_, _<_}
 use native.Mathlib.Omega.{arith}
 use borrow.Author.Needs.{needs}
 use Rattle.rules.specs.Triangles.{sampleOffset}
-use Rattle.cover.specs.Extent.{Beyond}
-use Rattle.cover.proofs.Raised.{beyond-raised}
-use Rattle.cover.proofs.extent.past_touched.Statement.{statement}
-use Rattle.cover.proofs.extent.past_touched.Tie as tie
+use Rattle.extent.specs.Extent.{Beyond}
+use Rattle.extent.proofs.Samples.{beyond-raised}
+use Rattle.extent.proofs.past_touched.Statement.{statement}
+use Rattle.extent.proofs.past_touched.Tie as tie
 
 sub-by : tie.Need-sub-by
 sub-by c = search needs

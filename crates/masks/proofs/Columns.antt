@@ -7,7 +7,7 @@ use lib.Dec.{ltb, leb}
 use borrow.Author.Tests.{lt-ltb, le-ltb, le-leb, lt-leb, ltb-true, ltb-false, leb-true, leb-false}
 use Rattle.rules.specs.Folds.{bit, howMany}
 use Rattle.rules.proofs.Folds.{howMany-none, howMany-more}
-use Rattle.cover.specs.Spans.{inSpan}
+use Rattle.masks.specs.Span.{inSpan}
 
 module _ (from to x : ℕ) where
   pub span-within : from ≤ x → x < to → inSpan from to x ≡ true

@@ -9,8 +9,8 @@ use Rattle.ints.proofs.Order.{le-of, le-to}
 use Rattle.ints.proofs.Bounds.{Within, within-lo}
 use Rattle.ints.proofs.Machine.{got-arg, Code, known, cast, _⊞_, need, got-of, natural-as, need-unsigned}
 use Rattle.edges.proofs.Within.{vertex-within}
-use Rattle.cover.proofs.extent.raised.Statement.{statement}
-use Rattle.cover.proofs.extent.raised.Tie as tie
+use Rattle.extent.proofs.raised.Statement.{statement}
+use Rattle.extent.proofs.raised.Tie as tie
 
 within : (c : tie.Start) → Within 8192 (c .args .v)
 within c = vertex-within (c .args .v) (c .pre .0)

@@ -2,8 +2,8 @@
 ghost use mathlib.Core.Path.{_≡_};
 ghost use Prim.Native.Nat.{_+_, _*_, _≤_, _<_};
 ghost use lib.Count.{ones};
-ghost use Rattle.cover.specs.Mask.{maskOf, MasksOf};
-ghost use Rattle.cover.specs.Spans.{inSpan};
+ghost use Rattle.masks.specs.Mask.{maskOf, MasksOf};
+ghost use Rattle.masks.specs.Span.{inSpan};
 
 // A mask for each group, from the left; leaf 0 in the top bit.
 pub struct Masks {

@@ -2,8 +2,8 @@
 use native.Mathlib.Omega.{arith}
 use lib.Count.{ones-le}
 use borrow.Author.Needs.{needs}
-use Rattle.cover.proofs.masks.ones_of.Statement.{statement}
-use Rattle.cover.proofs.masks.ones_of.Tie as tie
+use Rattle.masks.proofs.ones_of.Statement.{statement}
+use Rattle.masks.proofs.ones_of.Tie as tie
 
 add-result : tie.Need-add-result
 add-result c =

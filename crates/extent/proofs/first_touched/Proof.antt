@@ -4,9 +4,9 @@ use Prim.Native.Nat.{_+_, _*_, _-_, _<_}
 use native.Mathlib.Omega.{arith}
 use borrow.Author.Needs.{needs}
 use Rattle.rules.specs.Triangles.{sampleOffset}
-use Rattle.cover.proofs.Raised.{before-raised}
-use Rattle.cover.proofs.extent.first_touched.Statement.{statement}
-use Rattle.cover.proofs.extent.first_touched.Tie as tie
+use Rattle.extent.proofs.Samples.{before-raised}
+use Rattle.extent.proofs.first_touched.Statement.{statement}
+use Rattle.extent.proofs.first_touched.Tie as tie
 
 sub-by : tie.Need-sub-by
 sub-by c = search needs

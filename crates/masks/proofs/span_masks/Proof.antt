@@ -1,12 +1,12 @@
 -- The mask of 64 columns has the four masks as its digits, each below 2^16.
 use Prim.Native.Nat.{_+_, _<_}
 use native.Mathlib.Omega.{arith}
-use Rattle.cover.specs.Mask.{maskOf}
-use Rattle.cover.specs.Spans.{inSpan}
-use Rattle.cover.proofs.Mask.{mask-lt, wide-is}
+use Rattle.masks.specs.Mask.{maskOf}
+use Rattle.masks.specs.Span.{inSpan}
+use Rattle.masks.proofs.Mask.{mask-lt, wide-is}
 use borrow.Author.Needs.{needs}
-use Rattle.cover.proofs.masks.span_masks.Statement.{statement}
-use Rattle.cover.proofs.masks.span_masks.Tie as tie
+use Rattle.masks.proofs.span_masks.Statement.{statement}
+use Rattle.masks.proofs.span_masks.Tie as tie
 
 wide-mask-requires : tie.Need-wide-mask-requires
 wide-mask-requires c κs = search needs

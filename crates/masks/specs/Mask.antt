@@ -3,7 +3,7 @@ use Prim.Native.Nat.{ℕ, zero, suc, _+_, _*_}
 use mathlib.Core.Path.{_≡_}
 use mathlib.Core.Bool.{Bool}
 use Rattle.rules.specs.Folds.{bit}
-use Rattle.cover.specs.declared.masks.Masks.{Masks}
+use Rattle.masks.specs.declared.Masks.{Masks}
 
 unfoldable pub maskOf : (ℕ → Bool) → ℕ → ℕ
 maskOf leaf zero = 0

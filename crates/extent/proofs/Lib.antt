@@ -1,0 +1,3 @@
+-- The laws behind the functions' proofs.
+pub mod Outside
+pub mod Samples

@@ -1,0 +1,3 @@
+-- The laws behind the functions' proofs.
+pub mod Columns
+pub mod Mask
