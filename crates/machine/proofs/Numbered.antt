@@ -13,7 +13,7 @@ use Rattle.instructions.specs.Step.{Machine}
 use Rattle.instructions.specs.Run.{run, steps, illFormed, machineNumber, runNumber}
 use Rattle.instructions.specs.Calls.{Runs}
 use Rattle.instructions.proofs.Picks.{no-row}
-use Rattle.steps.specs.Runs.{Ready, Ends}
+use Rattle.runs.specs.Runs.{Ready, Ends}
 
 module _ (program : List ℕ) (m : Machine) where
   pub accepted-ready : runNumber program m ≡ 0 → Ready program m

@@ -5,15 +5,15 @@ use pieces::state::cpu_of;
 use pieces::state::joined;
 use pieces::state::view_of;
 use rules::Screen;
+use runs::run;
 use screen::sizes::sound;
 use screen::sizes::too_long;
-use steps::running::run;
 use tree::refuses;
 ghost use mathlib.Core.Path.{_≡_};
 ghost use Rattle.instructions.specs.Step.{together};
 ghost use Rattle.instructions.specs.Run.{illFormed, machineNumber, runNumber};
 ghost use Rattle.instructions.specs.Calls.{Fresh, Runs};
-ghost use Rattle.steps.specs.Runs.{Ends};
+ghost use Rattle.runs.specs.Runs.{Ends};
 
 // What a run answers: its number, the steps carried out, and the state.
 pub struct Ran {

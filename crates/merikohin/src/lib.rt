@@ -1,9 +1,8 @@
 // The calls as C and Rust link them: include/merikohin.h declares each.
 use border::LentState;
 use border::lent_state;
-use border::state_of;
-use machine::calls::machine_number;
-use machine::calls::run_accepted;
+use lends::LentRan;
+use lends::run_lent;
 use reader::RowPart;
 use rules::Drawn;
 use rules::Screen;
@@ -11,7 +10,7 @@ use rules::Triangle;
 ghost use lib.ListN.{length};
 ghost use Rattle.rules.specs.Calls.{Clears, Draws};
 ghost use Rattle.reader.specs.Rows.{Checks, Locates};
-ghost use Rattle.merikohin.specs.Lends.{Lends, RunsLent};
+ghost use Rattle.lends.specs.Lends.{Lends, RunsLent};
 
 #[no_mangle]
 pub extern "C" fn merikohin_clear(ram: &mut [u8], s: Screen, colour: u16, depth: u16) -> u32
@@ -41,14 +40,6 @@ pub extern "C" fn merikohin_row(ram: &[u8], s: Screen, row: u32) -> RowPart
     reader::row_part(ram, s, row)
 }
 
-// What a run answers: its number, the steps carried out, and the state.
-#[repr(C)]
-pub struct LentRan {
-    pub number: u32,
-    pub steps: u64,
-    pub state: LentState,
-}
-
 #[no_mangle]
 pub extern "C" fn merikohin_fresh() -> LentState
     ensures { λ r. ⌜ Lends r ⌝ }
@@ -66,22 +57,5 @@ pub extern "C" fn merikohin_run(
 ) -> LentRan
     ensures { λ r. ⌜ RunsLent (now (program .entry)) budget state (now (memory .entry)) (now (ram .entry)) r (now (memory .exit)) (now (ram .exit)) ⌝ }
 {
-    let given = state_of(state);
-    // refused, the lent state is answered bit by bit
-    let number = machine_number(program.len(), memory.len(), ram.len(), given);
-    if number != 0 {
-        return LentRan {
-            number,
-            steps: 0,
-            state,
-        };
-    }
-    let left = run_accepted(program, memory, ram, given, budget);
-    let last = left.state;
-    let state = lent_state(last);
-    LentRan {
-        number,
-        steps: left.steps,
-        state,
-    }
+    run_lent(program, memory, ram, state, budget)
 }

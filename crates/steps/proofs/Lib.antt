@@ -1,2 +1,1 @@
 pub mod Otherwise
-pub mod Invariant

@@ -1,3 +1,2 @@
--- What a step may count on, and what a run leaves.
+-- What a step may count on.
 pub mod Fits
-pub mod Runs

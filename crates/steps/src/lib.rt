@@ -1,4 +1,3 @@
-// The machine's step, and the run of it.
+// The machine's step: the opcodes, and an arm for each.
 pub mod arms;
 pub mod opcodes;
-pub mod running;

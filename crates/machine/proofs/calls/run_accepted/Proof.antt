@@ -6,7 +6,7 @@ use Rattle.instructions.specs.Step.{Machine, together}
 use Rattle.pieces.specs.declared.state.Cpu.{Cpu}
 use Rattle.pieces.specs.declared.state.View.{View}
 use Rattle.pieces.specs.Pieces.{machine}
-use Rattle.steps.specs.Runs.{Ready}
+use Rattle.runs.specs.Runs.{Ready}
 use Rattle.machine.proofs.Numbered.{accepted-ready, ends-same}
 use borrow.Author.Needs.{needs}
 use Rattle.machine.proofs.calls.run_accepted.Statement.{statement}

@@ -5,8 +5,8 @@ use mathlib.Core.Path.{_≡_, sym, _∙_, ap, ap₂}
 use mathlib.Core.List.{List}
 use Rattle.instructions.proofs.Unique.{runs-unique}
 use Rattle.border.specs.declared.LentState.{LentState}
-use Rattle.merikohin.specs.declared.LentRan.{LentRan}
-use Rattle.merikohin.specs.Lends.{Lends, answered, RunsLent}
+use Rattle.lends.specs.declared.LentRan.{LentRan}
+use Rattle.lends.specs.Lends.{Lends, answered, RunsLent}
 
 pub lends-unique : {p q : LentState} → Lends p → Lends q → p ≡ q
 lends-unique a b = a .fresh ∙ sym (b .fresh)

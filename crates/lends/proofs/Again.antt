@@ -15,11 +15,11 @@ use Rattle.instructions.proofs.Unique.{runs-add}
 use Rattle.border.specs.declared.LentState.{LentState}
 use Rattle.border.specs.Lent.{stateOf, lentState}
 use Rattle.border.proofs.Back.{lent-marks, state-back}
-use Rattle.merikohin.specs.declared.LentRan.{LentRan}
-use Rattle.merikohin.specs.Lends.{RunsLent}
-use Rattle.merikohin.specs.Again.{joined}
-use Rattle.merikohin.proofs.Lends.{runs-of-equal}
-use Rattle.merikohin.proofs.Unique.{runs-lent-unique}
+use Rattle.lends.specs.declared.LentRan.{LentRan}
+use Rattle.lends.specs.Lends.{RunsLent}
+use Rattle.lends.specs.Again.{joined}
+use Rattle.lends.proofs.Lends.{runs-of-equal}
+use Rattle.lends.proofs.Unique.{runs-lent-unique}
 
 -- a refused call changes nothing
 pub record Unchanged (given : LentState) (memory ram : List ℕ) (r : LentRan) (memoryAfter ramAfter : List ℕ) : Type 0 where

@@ -8,10 +8,10 @@ use lib.ListN.{length}
 use Rattle.instructions.specs.Step.{Machine, step}
 use Rattle.pieces.specs.declared.state.Cpu.{Cpu}
 use Rattle.pieces.specs.Pieces.{machine}
-use Rattle.steps.proofs.Invariant.{Kept, stops-past, step-in, ready-facts, ready-shows}
-use Rattle.steps.proofs.Invariant.{halted-ends, kept-start, kept-end, kept-stop, kept-turn}
-use Rattle.steps.proofs.running.run.Statement.{statement}
-use Rattle.steps.proofs.running.run.Tie as tie
+use Rattle.runs.proofs.Invariant.{Kept, stops-past, step-in, ready-facts, ready-shows}
+use Rattle.runs.proofs.Invariant.{halted-ends, kept-start, kept-end, kept-stop, kept-turn}
+use Rattle.runs.proofs.run.Statement.{statement}
+use Rattle.runs.proofs.run.Tie as tie
 
 abbrev Inv-loop : tie.InvT-loop
 Inv-loop program regs₀ memory₀ ram₀ budget cpu₀ view₀ steps₀ regs memory ram cpu view steps =

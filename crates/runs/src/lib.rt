@@ -1,13 +1,13 @@
-// The run: each step in turn, to the budget or to a halt.
-use crate::arms::plain_step;
-use crate::arms::view_step;
-use crate::opcodes::WRITE;
+// The machine's run: each step in turn, to the budget or to a halt.
 use alu::fields::opcode;
 use pieces::state::Cpu;
 use pieces::state::View;
 use pieces::state::stopped;
+use steps::arms::plain_step;
+use steps::arms::view_step;
+use steps::opcodes::WRITE;
 ghost use Rattle.pieces.specs.Pieces.{machine};
-ghost use Rattle.steps.specs.Runs.{Ends, Ready};
+ghost use Rattle.runs.specs.Runs.{Ends, Ready};
 
 // What a run leaves of the pieces by value, and the steps carried out.
 pub struct Ended {

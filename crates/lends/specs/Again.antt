@@ -1,6 +1,6 @@
 -- What two calls, the second from what the first left, answer together: the last number and state, and the counts added.
 use Prim.Native.Nat.{_+_}
-use Rattle.merikohin.specs.declared.LentRan.{LentRan}
+use Rattle.lends.specs.declared.LentRan.{LentRan}
 
 abbrev pub joined : LentRan → LentRan → LentRan
 joined p q = record {

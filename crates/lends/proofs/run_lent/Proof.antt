@@ -1,4 +1,4 @@
--- `merikohin_run` runs the state that the lent one stands for, and answers the state after, or the lent one itself where it is refused.
+-- `run_lent` runs the state that the lent one stands for, and answers the state after, or the lent one itself where it is refused.
 use Prim.Native.Nat.{ℕ}
 use mathlib.Core.Path.{_≡_, sym, _∙_}
 use mathlib.Core.Logic.{_≢_}
@@ -9,11 +9,11 @@ use Rattle.instructions.specs.declared.State.{State}
 use Rattle.instructions.specs.Step.{together}
 use Rattle.border.specs.declared.LentState.{LentState}
 use Rattle.border.specs.Lent.{lentState}
-use Rattle.merikohin.specs.Lends.{answered}
+use Rattle.lends.specs.Lends.{answered}
 use Rattle.machine.proofs.Numbered.{runs-refused, runs-done}
-use Rattle.merikohin.proofs.Lends.{runs-of-equal}
-use Rattle.merikohin.proofs.merikohin_run.Statement.{statement}
-use Rattle.merikohin.proofs.merikohin_run.Tie as tie
+use Rattle.lends.proofs.Lends.{runs-of-equal}
+use Rattle.lends.proofs.run_lent.Statement.{statement}
+use Rattle.lends.proofs.run_lent.Tie as tie
 
 refused : (number : ℕ) (given : LentState) (after : State) → number ≢ 0 → answered number given after ≡ given
 refused number given after h = rw (ne-eqb number 0 h)
@@ -75,8 +75,8 @@ returns-2 c =
       answers = c .lent-state .ensures ∙ sym (accepted number (s .args .state) after (test .if1 .left));
     }
 
-pub merikohin-run-spec : {M : Type 1} → statement M
-merikohin-run-spec =
+pub run-lent-spec : {M : Type 1} → statement M
+run-lent-spec =
     tie.close
     (tie.spec
     state-of-requires

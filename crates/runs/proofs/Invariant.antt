@@ -18,7 +18,7 @@ use Rattle.pieces.specs.declared.state.Cpu.{Cpu}
 use Rattle.pieces.specs.declared.state.View.{View}
 use Rattle.pieces.specs.Pieces.{machine, stopped}
 use Rattle.pieces.specs.Steps.{stepped, Shows}
-use Rattle.steps.specs.Runs.{Ready, Ends}
+use Rattle.runs.specs.Runs.{Ready, Ends}
 
 module _ (program : List ℕ) (m : Machine) (h : m .state .halt ≡ 0) where
   -- a step past the program, and one in it

@@ -11,7 +11,7 @@ use Rattle.instructions.specs.Run.{freshState}
 use Rattle.instructions.specs.Calls.{Runs}
 use Rattle.border.specs.declared.LentState.{LentState}
 use Rattle.border.specs.Lent.{stateOf, lentState}
-use Rattle.merikohin.specs.declared.LentRan.{LentRan}
+use Rattle.lends.specs.declared.LentRan.{LentRan}
 
 pub record Lends (r : LentState) : Type 0 where
   pub fresh : r ≡ lentState freshState

@@ -1,0 +1,2 @@
+-- What a run may count on, and what it leaves.
+pub mod Runs
