@@ -1,6 +1,7 @@
 // The machine's calls: a fresh state, whether a state is ill-formed, and a run.
 use instructions::State;
 use instructions::Tree;
+use leaves::refuses;
 use pieces::state::cpu_of;
 use pieces::state::joined;
 use pieces::state::view_of;
@@ -8,7 +9,6 @@ use rules::Screen;
 use runs::run;
 use screen::sizes::sound;
 use screen::sizes::too_long;
-use tree::refuses;
 ghost use mathlib.Core.Path.{_≡_};
 ghost use Rattle.instructions.specs.Step.{together};
 ghost use Rattle.instructions.specs.Run.{illFormed, machineNumber, runNumber};

@@ -13,7 +13,7 @@ use Rattle.rules.specs.Triangles.{topHalf}
 use Rattle.instructions.specs.Tree.{markI, markO, leafValue, marked, deepened, tooDeep, treeDepth}
 use Rattle.instructions.proofs.Leaves.{leaf-at, leaves-same}
 use Rattle.instructions.proofs.Filled.{Filled, filled-none, filled-kept, filled-more, filled-all}
-use Rattle.tree.proofs.Values.{value-first, value-next, value-small}
+use Rattle.leaves.proofs.Values.{value-first, value-next, value-small}
 use Rattle.tree.proofs.Standing.{depth-leaf-fits, depth-from}
 use Rattle.tree.proofs.tree_depth.Statement.{statement}
 use Rattle.tree.proofs.tree_depth.Tie as tie

@@ -9,9 +9,9 @@ use Rattle.rules.specs.Triangles.{positive, negative}
 use Rattle.instructions.specs.Words.{signed}
 use Rattle.instructions.specs.Tree.{markI, markO, leafValue, marked, treeIn}
 use Rattle.instructions.proofs.Filled.{Filled, filled-none, filled-kept, filled-more, filled-all}
-use Rattle.tree.proofs.Values.{value-first, value-next}
-use Rattle.tree.proofs.tree_in.Statement.{statement}
-use Rattle.tree.proofs.tree_in.Tie as tie
+use Rattle.leaves.proofs.Values.{value-first, value-next}
+use Rattle.leaves.proofs.tree_in.Statement.{statement}
+use Rattle.leaves.proofs.tree_in.Tie as tie
 
 abbrev Inv-loop : tie.InvT-loop
 Inv-loop tree a b inside₀ outside₀ colour depth v₀ k₀ inside outside v k =

@@ -6,9 +6,9 @@ use native.Mathlib.Omega.{arith}
 use borrow.Author.Needs.{needs}
 use Rattle.instructions.specs.Tree.{leafColour, leafValue, replaced, treeColour}
 use Rattle.instructions.proofs.Filled.{Filled, filled-none, filled-kept, filled-more, filled-all}
-use Rattle.tree.proofs.Values.{value-first, value-next}
-use Rattle.tree.proofs.tree_colour.Statement.{statement}
-use Rattle.tree.proofs.tree_colour.Tie as tie
+use Rattle.leaves.proofs.Values.{value-first, value-next}
+use Rattle.leaves.proofs.tree_colour.Statement.{statement}
+use Rattle.leaves.proofs.tree_colour.Tie as tie
 
 abbrev Inv-loop : tie.InvT-loop
 Inv-loop tree part a b inside outside colour₀ depth v₀ k₀ colour v k =

@@ -7,8 +7,8 @@ use lib.ListN.{replicate}
 use borrow.Author.Needs.{needs}
 use Rattle.instructions.specs.Tree.{each, maskBit, treeSet}
 use Rattle.instructions.proofs.Filled.{Filled, filled-none, filled-more, filled-all}
-use Rattle.tree.proofs.planted.Statement.{statement}
-use Rattle.tree.proofs.planted.Tie as tie
+use Rattle.leaves.proofs.planted.Statement.{statement}
+use Rattle.leaves.proofs.planted.Tie as tie
 
 abbrev Inv-loop : tie.InvT-loop
 Inv-loop column row mask inside₀ outside₀ k₀ inside outside k =

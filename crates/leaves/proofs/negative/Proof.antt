@@ -7,8 +7,8 @@ use lib.IntN.{pos, negsuc}
 use mir.Val.{sel}
 use borrow.Author.Tests.{ltb-true, ltb-false, le-leb, lt-leb}
 use Rattle.rules.specs.Triangles.{negative}
-use Rattle.tree.proofs.negative.Statement.{statement}
-use Rattle.tree.proofs.negative.Tie as tie
+use Rattle.leaves.proofs.negative.Statement.{statement}
+use Rattle.leaves.proofs.negative.Tie as tie
 
 by-half : (v : ℕ) (t : Bool) → ltb v 2147483648 ≡ t → leb 2147483648 v ≡ negative (sel t (pos v) (negsuc (4294967296 - suc v)))
 by-half v true e = lt-leb 2147483648 v (ltb-true v 2147483648 e)

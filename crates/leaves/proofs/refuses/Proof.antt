@@ -5,8 +5,8 @@ use mathlib.Core.Bool.{_&&_, not}
 use lib.Dec.{ltb, eqb}
 use borrow.Author.Needs.{needs}
 use Rattle.instructions.specs.Tree.{refusesPlace}
-use Rattle.tree.proofs.refuses.Statement.{statement}
-use Rattle.tree.proofs.refuses.Tie as tie
+use Rattle.leaves.proofs.refuses.Statement.{statement}
+use Rattle.leaves.proofs.refuses.Tie as tie
 
 width-requires : tie.Need-width-requires
 width-requires c κs = search needs

@@ -4,8 +4,8 @@ use borrow.Author.Tests.{eq-eqb, ne-eqb}
 use Rattle.rules.specs.Triangles.{topHalf}
 use Rattle.instructions.specs.Tree.{replaced}
 use borrow.Author.Needs.{needs}
-use Rattle.tree.proofs.replaced.Statement.{statement}
-use Rattle.tree.proofs.replaced.Tie as tie
+use Rattle.leaves.proofs.replaced.Statement.{statement}
+use Rattle.leaves.proofs.replaced.Tie as tie
 
 cast-top : tie.Need-cast-top
 cast-top c = search needs

@@ -8,8 +8,8 @@ use lib.IntN.{pos, negsuc}
 use mir.Val.{sel}
 use borrow.Author.Tests.{lt-ltb}
 use Rattle.rules.specs.Triangles.{positive}
-use Rattle.tree.proofs.positive.Statement.{statement}
-use Rattle.tree.proofs.positive.Tie as tie
+use Rattle.leaves.proofs.positive.Statement.{statement}
+use Rattle.leaves.proofs.positive.Tie as tie
 
 and-false : (b : Bool) → (b && false) ≡ false
 and-false true = refl
