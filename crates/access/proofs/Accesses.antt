@@ -6,7 +6,7 @@ use mathlib.Core.List.{List}
 use lib.ListN.{length, set}
 use lib.Dec.{ltb, eqb}
 use borrow.Author.Tests.{ltb-false}
-use Rattle.instructions.specs.Opcodes.{ST, READ, WRITE}
+use Rattle.instructions.specs.Opcodes.{current, ST, READ, WRITE}
 use Rattle.instructions.specs.Words.{opcode, inR1, inR2, address}
 use Rattle.instructions.specs.Jumps.{isJump}
 use Rattle.instructions.specs.Moves.{wordsRead, wordsWritten}
@@ -33,7 +33,7 @@ module _ (regs : List ℕ) (cpu : Cpu) (view : View) (memory ram : List ℕ) (w 
   before = machine regs cpu view memory ram
 
   -- the next place, with other memories
-  module _ (cpu′ : Cpu) (z : wordHalt (length ram) (joined regs cpu view) w ≡ 0) (hc : cpu′ ≡ at (cpu .place + 1) cpu) where
+  module _ (cpu′ : Cpu) (z : wordHalt current (length ram) (joined regs cpu view) w ≡ 0) (hc : cpu′ ≡ at (cpu .place + 1) cpu) where
     onward : (memory′ ram′ : List ℕ)
         → isJump (opcode w) ≡ false
         → effect before w ≡ machine regs cpu view memory′ ram′

@@ -8,7 +8,7 @@ use lib.Dec.{leb, ltb, eqb}
 use borrow.Author.Tests.{ltb-true, ltb-false, leb-true, eqb-true, not-false}
 use Rattle.rules.specs.Sizes.{sound}
 use Rattle.instructions.specs.declared.State.{State}
-use Rattle.instructions.specs.Opcodes.{LD, ST, DOT, SCRSET, CLS, TREESET, TREEIN, TREEVAL, TREEPUT, noInstruction}
+use Rattle.instructions.specs.Opcodes.{LD, ST, DOT, SCRSET, CLS, TREESET, TREEIN, TREEVAL, TREEPUT, Edition, isRetired, noInstruction}
 use Rattle.instructions.specs.Words.{opcode, imm, inR1, inR2, inR3, address}
 use Rattle.instructions.specs.Tree.{refusesPlace}
 use Rattle.instructions.specs.Halts.{wordAt, pastProgram, outsideData, isMove, moveOutsideData, moveOutsideRam}
@@ -17,18 +17,20 @@ use Rattle.instructions.specs.Run.{isHaltNumber}
 use Rattle.instructions.proofs.Picks.{pick, no-row, or-none}
 
 -- no row applies to the word w
-pub record NoHalt (ramLength : ℕ) (s : State) (w : ℕ) : Type 0 where
-  pub known : noInstruction (opcode w) ≡ false
+pub record NoHalt (edition : Edition) (ramLength : ℕ) (s : State) (w : ℕ) : Type 0 where
+  pub known : noInstruction edition (opcode w) ≡ false
   pub inData : outsideData (s .regs) w ≡ false
   pub moveInData : moveOutsideData (s .regs) w ≡ false
   pub moveInRam : moveOutsideRam ramLength (s .regs) w ≡ false
   pub screenThere : noScreen ramLength s w ≡ false
   pub treeThere : noTree s w ≡ false
 
-pub word-goes-on : (ramLength : ℕ) (s : State) (w : ℕ) → wordHalt ramLength s w ≡ 0 → NoHalt ramLength s w
+pub word-goes-on : (edition : Edition) (ramLength : ℕ) (s : State) (w : ℕ)
+    → wordHalt edition ramLength s w ≡ 0
+    → NoHalt edition ramLength s w
 unfolding wordHalt
-word-goes-on ramLength s w e =
-    let (known, e1) = no-row 10 (noInstruction (opcode w)) e in
+word-goes-on edition ramLength s w e =
+    let (known, e1) = no-row 10 (noInstruction edition (opcode w)) e in
     let (inData, e2) = no-row 12 (outsideData (s .regs) w) e1 in
     let (moveInData, e3) = no-row 14 (moveOutsideData (s .regs) w) e2 in
     let (moveInRam, e4) = no-row 15 (moveOutsideRam ramLength (s .regs) w) e3 in
@@ -43,21 +45,22 @@ word-goes-on ramLength s w e =
       treeThere = treeThere;
     }
 
-module _ (program : List ℕ) (ramLength : ℕ) (s : State) (e : haltNumber program ramLength s ≡ 0) where
+module _ (edition : Edition) (program : List ℕ) (ramLength : ℕ) (s : State) (e : haltNumber edition program ramLength s ≡ 0) where
   pub in-program : s .place < length program
   unfolding haltNumber
   in-program =
       ltb-true (s .place) (length program)
       (not-false (ltb (s .place) (length program)) (no-row 11 (pastProgram program s) e .0))
 
-  pub goes-on : NoHalt ramLength s (wordAt program s)
+  pub goes-on : NoHalt edition ramLength s (wordAt program s)
   unfolding haltNumber
-  goes-on = word-goes-on ramLength s (wordAt program s) (no-row 11 (pastProgram program s) e .1)
+  goes-on = word-goes-on edition ramLength s (wordAt program s) (no-row 11 (pastProgram program s) e .1)
 
 -- what each instruction finds
-module _ {ramLength : ℕ} {s : State} {w : ℕ} (h : NoHalt ramLength s w) where
+module _ {edition : Edition} {ramLength : ℕ} {s : State} {w : ℕ} (h : NoHalt edition ramLength s w) where
   pub opcode-known : opcode w ≤ TREEPUT
-  opcode-known = ltb-false TREEPUT (opcode w) (h .known)
+  unfolding noInstruction
+  opcode-known = ltb-false TREEPUT (opcode w) (or-none (isRetired edition (opcode w)) (ltb TREEPUT (opcode w)) (h .known) .1)
 
   pub LD-in-data : opcode w ≡ LD → address (s .regs) w ≤ 1023
   unfolding outsideData
@@ -124,12 +127,13 @@ module _ {ramLength : ℕ} {s : State} {w : ℕ} (h : NoHalt ramLength s w) wher
 abbrev IsKnown : ℕ → Type 0
 IsKnown n = isHaltNumber n ≡ true
 
-pub halt-known : (program : List ℕ) (ramLength : ℕ) (s : State) → isHaltNumber (haltNumber program ramLength s) ≡ true
+pub halt-known : (edition : Edition) (program : List ℕ) (ramLength : ℕ) (s : State)
+    → isHaltNumber (haltNumber edition program ramLength s) ≡ true
 unfolding haltNumber wordHalt
-halt-known program ramLength s =
+halt-known edition program ramLength s =
     let w : ℕ = wordAt program s in
     pick IsKnown (pastProgram program s) (λ e. refl) λ e.
-    pick IsKnown (noInstruction (opcode w)) (λ e. refl) λ e.
+    pick IsKnown (noInstruction edition (opcode w)) (λ e. refl) λ e.
     pick IsKnown (outsideData (s .regs) w) (λ e. refl) λ e.
     pick IsKnown (moveOutsideData (s .regs) w) (λ e. refl) λ e.
     pick IsKnown (moveOutsideRam ramLength (s .regs) w) (λ e. refl) λ e.

@@ -11,6 +11,7 @@ use Rattle.rules.specs.Calls.{cleared}
 use Rattle.rules.proofs.Folds.{upto-keeps}
 use Rattle.ram.proofs.Halves.{length-storeHalf}
 use Rattle.rules.proofs.Pixels.{length-putPixel}
+use Rattle.instructions.specs.Opcodes.{Edition}
 use Rattle.instructions.specs.declared.Tree.{Tree}
 use Rattle.ram.proofs.Words.{length-storeWord}
 use Rattle.instructions.specs.Moves.{wordRead, wordsRead, wordWritten, wordsWritten}
@@ -99,18 +100,19 @@ performed-keeps-lengths m w =
     let h : SameLengths m (effect m w) = effect-keeps-lengths m w in
     record { memory = h .memory; ram = h .ram; registers = h .registers }
 
-pub step-keeps-lengths : (program : List ℕ) (m : Machine) → SameLengths m (step program m)
+pub step-keeps-lengths : (edition : Edition) (program : List ℕ) (m : Machine) → SameLengths m (step edition program m)
 unfolding step withHalt
-step-keeps-lengths program m =
+step-keeps-lengths edition program m =
     pick (SameLengths m) (isHalted m) (λ e. same m)
-    (λ e. pick (SameLengths m) (eqb (nextHalt program m) 0)
+    (λ e. pick (SameLengths m) (eqb (nextHalt edition program m) 0)
     (λ f. performed-keeps-lengths m (wordAt program (m .state)))
     (λ f. record { memory = refl; ram = refl; registers = refl }))
 
-pub run-keeps-lengths : (program : List ℕ) (n : ℕ) (m : Machine) → SameLengths m (run program n m)
+pub run-keeps-lengths : (edition : Edition) (program : List ℕ) (n : ℕ) (m : Machine) → SameLengths m (run edition program n m)
 unfolding run
-run-keeps-lengths program zero m = same m
-run-keeps-lengths program (suc n) m = lengths-then (step-keeps-lengths program m) (run-keeps-lengths program n (step program m))
+run-keeps-lengths edition program zero m = same m
+run-keeps-lengths edition program (suc n) m =
+    lengths-then (step-keeps-lengths edition program m) (run-keeps-lengths edition program n (step edition program m))
 
 -- what each TREE instruction keeps of the tree, a run keeps
 pub record TreesKeep (P : Tree → Type 0) : Type 0 where
@@ -139,18 +141,21 @@ module _ (P : Tree → Type 0) (kept : TreesKeep P) where
         onJump = h;
       })
 
-  pub step-keeps-tree : (program : List ℕ) (m : Machine) → P (m .state .tree) → P (step program m .state .tree)
+  pub step-keeps-tree : (edition : Edition) (program : List ℕ) (m : Machine) → P (m .state .tree) → P (step edition program m .state .tree)
   unfolding step performed withPlace withHalt
-  step-keeps-tree program m h =
+  step-keeps-tree edition program m h =
       pick (λ (k : Machine). P (k .state .tree)) (isHalted m) (λ e. h)
-      (λ e. pick (λ (k : Machine). P (k .state .tree)) (eqb (nextHalt program m) 0)
+      (λ e. pick (λ (k : Machine). P (k .state .tree)) (eqb (nextHalt edition program m) 0)
       (λ f. effect-keeps-tree m (wordAt program (m .state)) h)
       (λ f. h))
 
-  pub run-keeps-tree : (program : List ℕ) (n : ℕ) (m : Machine) → P (m .state .tree) → P (run program n m .state .tree)
+  pub run-keeps-tree : (edition : Edition) (program : List ℕ) (n : ℕ) (m : Machine)
+      → P (m .state .tree)
+      → P (run edition program n m .state .tree)
   unfolding run
-  run-keeps-tree program zero m h = h
-  run-keeps-tree program (suc n) m h = run-keeps-tree program n (step program m) (step-keeps-tree program m h)
+  run-keeps-tree edition program zero m h = h
+  run-keeps-tree edition program (suc n) m h =
+      run-keeps-tree edition program n (step edition program m) (step-keeps-tree edition program m h)
 
 -- "Sixteen leaves": of the marks alone, since those of any lent state are sixteen, and of all four
 pub record SixteenMarks (t : Tree) : Type 0 where
@@ -173,9 +178,9 @@ marks-kept = record {
       (λ e. record { marksI = h .marksI; marksO = h .marksO });
 }
 
-pub run-keeps-marks : (program : List ℕ) (n : ℕ) (m : Machine)
+pub run-keeps-marks : (edition : Edition) (program : List ℕ) (n : ℕ) (m : Machine)
     → SixteenMarks (m .state .tree)
-    → SixteenMarks (run program n m .state .tree)
+    → SixteenMarks (run edition program n m .state .tree)
 run-keeps-marks = run-keeps-tree SixteenMarks marks-kept
 
 sixteen-kept : TreesKeep Sixteen
@@ -200,7 +205,7 @@ sixteen-kept = record {
       });
 }
 
-pub run-keeps-sixteen : (program : List ℕ) (n : ℕ) (m : Machine)
+pub run-keeps-sixteen : (edition : Edition) (program : List ℕ) (n : ℕ) (m : Machine)
     → Sixteen (m .state .tree)
-    → Sixteen (run program n m .state .tree)
+    → Sixteen (run edition program n m .state .tree)
 run-keeps-sixteen = run-keeps-tree Sixteen sixteen-kept

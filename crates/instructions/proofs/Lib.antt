@@ -10,5 +10,6 @@ pub mod WellFormed
 pub mod Run
 pub mod Trees
 pub mod Unique
+pub mod Stepping
 pub mod Meaning
 pub mod Moved

@@ -11,7 +11,7 @@ use Rattle.rules.specs.Sizes.{sound}
 use Rattle.rules.specs.Numbers.{tooLong}
 use Rattle.instructions.specs.declared.State.{State}
 use Rattle.instructions.specs.declared.Tree.{Tree}
-use Rattle.instructions.specs.Opcodes.{TREESET}
+use Rattle.instructions.specs.Opcodes.{Edition, TREESET}
 use Rattle.instructions.specs.Words.{opcode, inR1, inR2, inR3, register, withRegister}
 use Rattle.instructions.specs.Tree.{refusesPlace, treeSet, marked, treeIn, deepened, treeDepth, treeColour, treeVal}
 use Rattle.instructions.specs.Halts.{wordAt}
@@ -157,8 +157,8 @@ grows w t h k c r = treed (written h _ _) t (h .treeShown k) (rw (c, r) (h .tree
 abbrev Good : Machine → Machine → Type 0
 Good m k = WellFormed (length (m .ram)) (k .state)
 
-module _ (m : Machine) (w : ℕ) where
-  effect-well-formed : NoHalt (length (m .ram)) (m .state) w → Good m m → Good m (effect m w)
+module _ {edition : Edition} (m : Machine) (w : ℕ) where
+  effect-well-formed : NoHalt edition (length (m .ram)) (m .state) w → Good m m → Good m (effect m w)
   unfolding afterResult afterST afterCALL afterREAD afterWRITE afterSCRSET afterCLS afterTREESET afterTREEIN afterTREEVAL afterTREEPUT
   effect-well-formed n h =
       effect-has (Good m) m w
@@ -190,48 +190,48 @@ module _ (m : Machine) (w : ℕ) where
       in-row : treeIn (inR1 regs w) (inR2 regs w) (m .state .tree) .row ≡ m .state .tree .row
       in-row = unfold treeIn marked in refl
 
-  performed-well-formed : NoHalt (length (m .ram)) (m .state) w → Good m m → Good m (performed m w)
+  performed-well-formed : NoHalt edition (length (m .ram)) (m .state) w → Good m m → Good m (performed m w)
   unfolding performed
   performed-well-formed n h = placed (effect-well-formed n h) _
 
-module _ (program : List ℕ) where
-  pub step-good : (m : Machine) → Good m m → Good m (step program m)
+module _ (edition : Edition) (program : List ℕ) where
+  pub step-good : (m : Machine) → Good m m → Good m (step edition program m)
   unfolding step
   step-good m h =
       pick (Good m) (isHalted m) (λ e. h)
-      (λ e. pick (Good m) (eqb (nextHalt program m) 0)
+      (λ e. pick (Good m) (eqb (nextHalt edition program m) 0)
       (λ f. performed-well-formed m (wordAt program (m .state))
-      (goes-on program (length (m .ram)) (m .state) (eqb-true (nextHalt program m) 0 f)) h)
-      (λ f. halted h (nextHalt program m) (halt-known program (length (m .ram)) (m .state))))
+      (goes-on edition program (length (m .ram)) (m .state) (eqb-true (nextHalt edition program m) 0 f)) h)
+      (λ f. halted h (nextHalt edition program m) (halt-known edition program (length (m .ram)) (m .state))))
 
   pub step-well-formed : (m : Machine)
       → illFormed (length (m .ram)) (m .state) ≡ false
-      → illFormed (length (step program m .ram)) (step program m .state) ≡ false
-  step-well-formed m e = rw (step-keeps-lengths program m .ram) (well-formed-test (step-good m (well-formed-facts e)))
+      → illFormed (length (step edition program m .ram)) (step edition program m .state) ≡ false
+  step-well-formed m e = rw (step-keeps-lengths edition program m .ram) (well-formed-test (step-good m (well-formed-facts e)))
 
   pub run-well-formed : (n : ℕ) (m : Machine)
       → illFormed (length (m .ram)) (m .state) ≡ false
-      → illFormed (length (run program n m .ram)) (run program n m .state) ≡ false
+      → illFormed (length (run edition program n m .ram)) (run edition program n m .state) ≡ false
   unfolding run
   run-well-formed zero m e = e
-  run-well-formed (suc n) m e = run-well-formed n (step program m) (step-well-formed m e)
+  run-well-formed (suc n) m e = run-well-formed n (step edition program m) (step-well-formed m e)
 
   -- "R0 is always 0"
   pub step-zero-register : (m : Machine)
       → illFormed (length (m .ram)) (m .state) ≡ false
-      → register (step program m .state .regs) 0 ≡ 0
+      → register (step edition program m .state .regs) 0 ≡ 0
   step-zero-register m e = well-formed-facts (step-well-formed m e) .zeroRegister
 
   pub run-zero-register : (n : ℕ) (m : Machine)
       → illFormed (length (m .ram)) (m .state) ≡ false
-      → register (run program n m .state .regs) 0 ≡ 0
+      → register (run edition program n m .state .regs) 0 ≡ 0
   run-zero-register n m e = well-formed-facts (run-well-formed n m e) .zeroRegister
 
   -- an accepted call's outcome is accepted again
-  pub run-accepted : (n : ℕ) (m : Machine) → runNumber program m ≡ 0 → runNumber program (run program n m) ≡ 0
+  pub run-accepted : (n : ℕ) (m : Machine) → runNumber program m ≡ 0 → runNumber program (run edition program n m) ≡ 0
   unfolding machineNumber
   run-accepted n m e =
-      let l : SameLengths m (run program n m) = run-keeps-lengths program n m in
+      let l : SameLengths m (run edition program n m) = run-keeps-lengths edition program n m in
       let (a, e1) = no-row 0 (ltb 1024 (length program)) e in
       let (b, e2) = no-row 1 (not (eqb (length (m .memory)) 1024)) e1 in
       let (c, e3) = no-row 2 (tooLong (length (m .ram))) e2 in

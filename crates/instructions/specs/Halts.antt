@@ -8,7 +8,8 @@ use Rattle.rules.specs.declared.Screen.{Screen}
 use Rattle.rules.specs.Folds.{choose}
 use Rattle.rules.specs.Sizes.{sound}
 use Rattle.instructions.specs.declared.State.{State}
-use Rattle.instructions.specs.Opcodes.{LD, ST, DOT, READ, WRITE, SCRSET, CLS, TREESET, TREEIN, TREEVAL, TREEPUT, noInstruction}
+use Rattle.instructions.specs.Opcodes.{LD, ST, DOT, READ, WRITE, SCRSET, CLS, TREESET, TREEIN, TREEVAL, TREEPUT}
+use Rattle.instructions.specs.Opcodes.{Edition, noInstruction}
 use Rattle.instructions.specs.Words.{opcode, imm, inR1, inR2, inR3, address}
 use Rattle.instructions.specs.Tree.{refusesPlace}
 
@@ -56,9 +57,9 @@ noTree s w =
     || eqb (opcode w) TREEVAL && ltb 3 (imm w)
 
 -- the rows for the word w, after 12
-unfoldable pub wordHalt : ℕ → State → ℕ → ℕ
-wordHalt ramLength s w =
-    choose (noInstruction (opcode w)) 11
+unfoldable pub wordHalt : Edition → ℕ → State → ℕ → ℕ
+wordHalt edition ramLength s w =
+    choose (noInstruction edition (opcode w)) 11
     (choose (outsideData (s .regs) w) 13
     (choose (moveOutsideData (s .regs) w) 15
     (choose (moveOutsideRam ramLength (s .regs) w) 16
@@ -66,5 +67,5 @@ wordHalt ramLength s w =
     (choose (noTree s w) 14 0)))))
 
 -- the number of the halt that the next step of a state not yet halted brings, 0 for none
-unfoldable pub haltNumber : List ℕ → ℕ → State → ℕ
-haltNumber program ramLength s = choose (pastProgram program s) 12 (wordHalt ramLength s (wordAt program s))
+unfoldable pub haltNumber : Edition → List ℕ → ℕ → State → ℕ
+haltNumber edition program ramLength s = choose (pastProgram program s) 12 (wordHalt edition ramLength s (wordAt program s))

@@ -1,8 +1,9 @@
 -- docs/RULES.md, 9.1, whose table is docs/INSTRUCTIONS.md: "the place of the name in Table 3.1 of source document 001, from LD = 0 to
 -- TREEPUT = 40 (SUB is 4, as printed)"
 use Prim.Native.Nat.{ℕ}
-use mathlib.Core.Bool.{Bool}
-use lib.Dec.{ltb}
+use mathlib.Core.Bool.{Bool, false, _||_}
+use mathlib.Core.List.{List, [], _∷_}
+use lib.Dec.{ltb, eqb}
 
 abbrev pub LD : ℕ
 LD = 0
@@ -127,6 +128,17 @@ TREEVAL = 39
 abbrev pub TREEPUT : ℕ
 TREEPUT = 40
 
+-- An edition of the machine is the list of opcodes that it has retired. 01's has retired none.
+abbrev pub Edition : Type 0
+Edition = List ℕ
+
+abbrev pub current : Edition
+current = []
+
+unfoldable pub isRetired : Edition → ℕ → Bool
+isRetired [] op = false
+isRetired (old ∷ others) op = eqb op old || isRetired others op
+
 -- "opcode above 40"
-abbrev pub noInstruction : ℕ → Bool
-noInstruction op = ltb TREEPUT op
+unfoldable pub noInstruction : Edition → ℕ → Bool
+noInstruction edition op = isRetired edition op || ltb TREEPUT op

@@ -11,23 +11,24 @@ use Rattle.rules.specs.Sizes.{sound}
 use Rattle.rules.specs.Numbers.{tooLong}
 use Rattle.instructions.specs.declared.State.{State}
 use Rattle.instructions.specs.declared.Tree.{Tree}
+use Rattle.instructions.specs.Opcodes.{Edition}
 use Rattle.instructions.specs.Words.{register}
 use Rattle.instructions.specs.Tree.{refusesPlace}
 use Rattle.instructions.specs.Step.{Machine, isHalted, nextHalt, step}
 
 -- "A run takes a count of steps allowed": it is each step in turn
-unfoldable pub run : List ℕ → ℕ → Machine → Machine
-run program zero m = m
-run program (suc n) m = run program n (step program m)
+unfoldable pub run : Edition → List ℕ → ℕ → Machine → Machine
+run edition program zero m = m
+run edition program (suc n) m = run edition program n (step edition program m)
 
 -- a halting step "is not counted", and a halted state has none
-unfoldable pub isCounted : List ℕ → Machine → Bool
-isCounted program m = not (isHalted m) && eqb (nextHalt program m) 0
+unfoldable pub isCounted : Edition → List ℕ → Machine → Bool
+isCounted edition program m = not (isHalted m) && eqb (nextHalt edition program m) 0
 
 -- "reports the steps carried out"
-unfoldable pub steps : List ℕ → ℕ → Machine → ℕ
-steps program zero m = 0
-steps program (suc n) m = bit (isCounted program m) + steps program n (step program m)
+unfoldable pub steps : Edition → List ℕ → ℕ → Machine → ℕ
+steps edition program zero m = 0
+steps edition program (suc n) m = bit (isCounted edition program m) + steps edition program n (step edition program m)
 
 -- "none of 0 and 11 to 17"
 abbrev pub isHaltNumber : ℕ → Bool

@@ -10,7 +10,7 @@ use Rattle.rules.specs.Folds.{choose}
 use Rattle.rules.specs.Calls.{cleared}
 use Rattle.instructions.specs.declared.State.{State}
 use Rattle.instructions.specs.declared.Tree.{Tree}
-use Rattle.instructions.specs.Opcodes.{ST, CALL, READ, WRITE, SCRSET, CLS, TREESET, TREEIN, TREEVAL, TREEPUT}
+use Rattle.instructions.specs.Opcodes.{ST, CALL, READ, WRITE, SCRSET, CLS, TREESET, TREEIN, TREEVAL, TREEPUT, Edition}
 use Rattle.instructions.specs.Words.{opcode, r1, imm, inR1, inR2, inR3, withRegister, address}
 use Rattle.instructions.specs.Arithmetic.{lowHalf, result, setsFlags, negativeFlag, zeroFlag}
 use Rattle.instructions.specs.Jumps.{following, nextPlace}
@@ -193,12 +193,12 @@ performed m w = withState (withPlace (nextPlace (m .state) w) (effect m w .state
 abbrev pub isHalted : Machine → Bool
 isHalted m = not (eqb (m .state .halt) 0)
 
-abbrev pub nextHalt : List ℕ → Machine → ℕ
-nextHalt program m = haltNumber program (length (m .ram)) (m .state)
+abbrev pub nextHalt : Edition → List ℕ → Machine → ℕ
+nextHalt edition program m = haltNumber edition program (length (m .ram)) (m .state)
 
 -- "A halting step changes only the halt number"; "A halted state .. stays"
-unfoldable pub step : List ℕ → Machine → Machine
-step program m =
+unfoldable pub step : Edition → List ℕ → Machine → Machine
+step edition program m =
     choose (isHalted m) m
-    (choose (eqb (nextHalt program m) 0) (performed m (wordAt program (m .state)))
-    (withState (withHalt (nextHalt program m) (m .state)) m))
+    (choose (eqb (nextHalt edition program m) 0) (performed m (wordAt program (m .state)))
+    (withState (withHalt (nextHalt edition program m) (m .state)) m))

@@ -1,115 +1,127 @@
 -- "Running m and then n steps ends as running m + n, where the sum fits, with the counts added", over a state lent and lent again: what C
--- has of a state stands for that state. A refused call answers the state as given, so the next is the same call.
-use Prim.Native.Nat.{ℕ, _+_}
-use mathlib.Core.Path.{_≡_, sym, _∙_, ap, ap₂, subst}
+-- has of a state stands for that state. A refused call answers the state as given, so the next is the same call. And a run is single
+-- steps in turn.
+use Prim.Native.Nat.{ℕ, zero, suc, _+_, _<_}
+use mathlib.Core.Path.{_≡_, refl, sym, _∙_, ap, subst}
 use mathlib.Core.Logic.{_≢_}
 use mathlib.Core.List.{List}
 use native.Mathlib.Omega.{arith}
 use native.Mathlib.Decide.{ℕ-discrete}
 use Rattle.rules.proofs.Choices.{accepted-no, accepted-yes}
+use Rattle.instructions.specs.Opcodes.{current}
 use Rattle.instructions.specs.Step.{Machine, together}
 use Rattle.instructions.specs.Run.{run, steps, runNumber}
-use Rattle.instructions.specs.Calls.{Runs}
+use Rattle.instructions.specs.Calls.{outcome, Runs}
 use Rattle.instructions.proofs.Lengths.{SixteenMarks, run-keeps-marks}
 use Rattle.instructions.proofs.Unique.{runs-add}
 use Rattle.border.specs.declared.LentState.{LentState}
 use Rattle.border.specs.Lent.{stateOf, lentState}
 use Rattle.border.proofs.Back.{lent-marks, state-back}
-use Rattle.lends.specs.declared.LentRan.{LentRan}
-use Rattle.lends.specs.Lends.{RunsLent}
-use Rattle.lends.specs.Again.{joined}
+use Rattle.lends.specs.Lends.{Lent, machineOf, LentOutcome, RunsLent, StepsLent}
+use Rattle.lends.specs.Again.{joined, joinedAll}
 use Rattle.lends.proofs.Lends.{runs-of-equal}
+use Rattle.lends.proofs.Stepping.{step-is-run}
 use Rattle.lends.proofs.Unique.{runs-lent-unique}
 
 -- a refused call changes nothing
-pub record Unchanged (given : LentState) (memory ram : List ℕ) (r : LentRan) (memoryAfter ramAfter : List ℕ) : Type 0 where
-  pub no-steps : r .steps ≡ 0
-  pub same-state : r .state ≡ given
-  pub same-memory : memoryAfter ≡ memory
-  pub same-ram : ramAfter ≡ ram
+pub record Unchanged (l : Lent) (o : LentOutcome) : Type 0 where
+  pub no-steps : o .count ≡ 0
+  pub same : o .left ≡ l
 
-module _ {program memory ram memory₁ ram₁ : List ℕ} {budget : ℕ} {given : LentState} {p : LentRan}
-    (c : RunsLent program budget given memory ram p memory₁ ram₁) where
+module _ {program : List ℕ} {budget : ℕ} {l : Lent} {p : LentOutcome} (c : RunsLent program budget l p) where
   abbrev start : Machine
-  start = together (stateOf given) memory ram
+  start = machineOf l
 
-  pub lent-refused : p .number ≢ 0 → Unchanged given memory ram p memory₁ ram₁
+  pub lent-refused : p .number ≢ 0 → Unchanged l p
   lent-refused d =
       let no : runNumber program start ≢ 0 = λ e. d (c .runs .answers ∙ e) in
-      let left = c .runs .leaves ∙ accepted-no (runNumber program start) (run program budget start) start no in
+      let left = c .runs .leaves ∙ accepted-no (runNumber program start) (run current program budget start) start no in
+      let state = c .answers ∙ accepted-no (p .number) (lentState (c .after)) (l .state) d in
       record {
-        no-steps = c .runs .counts ∙ accepted-no (runNumber program start) (steps program budget start) 0 no;
-        same-state = c .answers ∙ accepted-no (p .number) (lentState (c .after)) given d;
-        same-memory = ap (λ m. m .memory) left;
-        same-ram = ap (λ m. m .ram) left;
+        no-steps = c .runs .counts ∙ accepted-no (runNumber program start) (steps current program budget start) 0 no;
+        same = λ i. record { state = state i; memory = left i .memory; ram = left i .ram };
       }
 
   -- an accepted call answers what its run left: lent again, it is that state
-  lent-again : p .number ≡ 0 → stateOf (p .state) ≡ c .after
+  lent-again : p .number ≡ 0 → stateOf (p .left .state) ≡ c .after
   lent-again e =
       let none : runNumber program start ≡ 0 = sym (c .runs .answers) ∙ e in
-      let left = c .runs .leaves ∙ accepted-yes (runNumber program start) (run program budget start) start none in
-      let marks = run-keeps-marks program budget start (lent-marks given) in
-      ap stateOf (c .answers ∙ accepted-yes (p .number) (lentState (c .after)) given e)
+      let left = c .runs .leaves ∙ accepted-yes (runNumber program start) (run current program budget start) start none in
+      let marks = run-keeps-marks current program budget start (lent-marks (l .state)) in
+      ap stateOf (c .answers ∙ accepted-yes (p .number) (lentState (c .after)) (l .state) e)
       ∙ state-back (c .after) (subst (λ (m : Machine). SixteenMarks (m .state .tree)) (sym left) marks)
 
-module _ {program memory ram memory₁ ram₁ memory₂ ram₂ : List ℕ} {m n : ℕ} {given : LentState} {p q : LentRan}
-    (first : RunsLent program m given memory ram p memory₁ ram₁)
-    (second : RunsLent program n (p .state) memory₁ ram₁ q memory₂ ram₂) where
+module _ {program : List ℕ} {m n : ℕ} {l : Lent} {p q : LentOutcome}
+    (first : RunsLent program m l p) (second : RunsLent program n (p .left) q) where
   -- after a refused call the second is refused alike, and nothing has changed
-  pub second-refused : p .number ≢ 0 → (q .number ≡ p .number) × Unchanged given memory ram q memory₂ ram₂
+  pub second-refused : p .number ≢ 0 → (q .number ≡ p .number) × Unchanged l q
   second-refused d = (same-number, lent-refused same-call (λ e. d (sym same-number ∙ e)))
     where
-      u : Unchanged given memory ram p memory₁ ram₁
-      u = lent-refused first d
-
-      same-call : RunsLent program n given memory ram q memory₂ ram₂
-      same-call = rw (sym (u .same-state), sym (u .same-memory), sym (u .same-ram)) second
+      same-call : RunsLent program n l q
+      same-call = subst (λ k. RunsLent program n k q) (lent-refused first d .same) second
 
       same-number : q .number ≡ p .number
       same-number = same-call .runs .answers ∙ sym (first .runs .answers)
 
-  pub runs-lent-add : (q .number ≡ p .number) × RunsLent program (m + n) given memory ram (joined p q) memory₂ ram₂
+  pub runs-lent-add : (q .number ≡ p .number) × RunsLent program (m + n) l (joined p q)
   runs-lent-add = go (ℕ-discrete (p .number) 0)
     where
-      go : Dec (p .number ≡ 0) → (q .number ≡ p .number) × RunsLent program (m + n) given memory ram (joined p q) memory₂ ram₂
+      go : Dec (p .number ≡ 0) → (q .number ≡ p .number) × RunsLent program (m + n) l (joined p q)
       go (yes e) =
-          let from : Machine = together (stateOf given) memory ram in
-          let mid : Machine = together (first .after) memory₁ ram₁ in
-          let end : Machine = together (second .after) memory₂ ram₂ in
-          let run₁ : Runs program m from 0 (p .steps) mid = subst (λ k. Runs program m from k (p .steps) mid) e (first .runs) in
+          let mid : Machine = together (first .after) (p .left .memory) (p .left .ram) in
+          let end : Machine = together (second .after) (q .left .memory) (q .left .ram) in
+          let run₁ = subst (λ k. Runs program m (machineOf l) (outcome k (p .count) mid)) e (first .runs) in
           let (none, both) = runs-add run₁ (runs-of-equal (lent-again first e) (second .runs)) in
           let ended : LentState = lentState (second .after) in (
             none ∙ sym e,
             record {
               after = second .after;
-              runs = subst (λ k. Runs program (m + n) from k (p .steps + q .steps) end) (sym none) both;
+              runs = subst (λ k. Runs program (m + n) (machineOf l) (outcome k (p .count + q .count) end)) (sym none) both;
               answers = second .answers
-                  ∙ accepted-yes (q .number) ended (p .state) none
-                  ∙ sym (accepted-yes (q .number) ended given none);
+                  ∙ accepted-yes (q .number) ended (p .left .state) none
+                  ∙ sym (accepted-yes (q .number) ended (l .state) none);
             },
           )
       go (no d) =
           let (same, u) = second-refused d in
-          let from : Machine = together (stateOf given) memory ram in
+          let from : Machine = machineOf l in
           let number : ℕ = runNumber program from in
           let no : number ≢ 0 = λ e. d (first .runs .answers ∙ e) in
-          let none : p .steps + q .steps ≡ 0 = omega (arith, lent-refused first d .no-steps, u .no-steps) in
-          let left : together (stateOf given) memory₂ ram₂ ≡ from = ap₂ (together (stateOf given)) (u .same-memory) (u .same-ram) in (
+          let none : p .count + q .count ≡ 0 = omega (arith, lent-refused first d .no-steps, u .no-steps) in
+          let left : together (stateOf (l .state)) (q .left .memory) (q .left .ram) ≡ from =
+          ap (λ k. together (stateOf (l .state)) (k .memory) (k .ram)) (u .same) in (
             same,
             record {
-              after = stateOf given;
+              after = stateOf (l .state);
               runs = record {
                 answers = same ∙ first .runs .answers;
-                counts = none ∙ sym (accepted-no number (steps program (m + n) from) 0 no);
-                leaves = left ∙ sym (accepted-no number (run program (m + n) from) from no);
+                counts = none ∙ sym (accepted-no number (steps current program (m + n) from) 0 no);
+                leaves = left ∙ sym (accepted-no number (run current program (m + n) from) from no);
               };
-              answers = u .same-state ∙ sym (accepted-no (q .number) (lentState (stateOf given)) given (λ e. d (sym same ∙ e)));
+              answers = ap (λ k. k .state) (u .same)
+                  ∙ sym (accepted-no (q .number) (lentState (stateOf (l .state))) (l .state) (λ e. d (sym same ∙ e)));
             },
           )
 
   -- so a call of m + n steps, where the 64 bits of its count hold the sum, answers and leaves what the two did
-  pub one-call-for-two : {r : LentRan} {memory₃ ram₃ : List ℕ}
-      → RunsLent program (m + n) given memory ram r memory₃ ram₃
-      → (r ≡ joined p q) × (memory₃ ≡ memory₂) × (ram₃ ≡ ram₂)
+  pub one-call-for-two : {r : LentOutcome} → RunsLent program (m + n) l r → r ≡ joined p q
   one-call-for-two c = runs-lent-unique c (runs-lent-add .1)
+
+-- single steps in turn, each from what the one before left, are one run
+module _ (program : List ℕ) (l : Lent) (o : ℕ → LentOutcome) (first : StepsLent program l (o 0)) where
+  last-left : (n : ℕ) → joinedAll o n .left ≡ o n .left
+  unfolding joinedAll
+  last-left zero = refl
+  last-left (suc n) = refl
+
+  pub run-is-steps : (n : ℕ)
+      → ((i : ℕ) → i < n → StepsLent program (o i .left) (o (suc i)))
+      → RunsLent program (n + 1) l (joinedAll o n)
+  unfolding joinedAll
+  run-is-steps zero h = step-is-run first
+  run-is-steps (suc n) h =
+      let before : RunsLent program (n + 1) l (joinedAll o n) = run-is-steps n (λ i a. h i (omega arith)) in
+      let next : StepsLent program (o n .left) (o (suc n)) = h n (omega arith) in
+      let from : StepsLent program (joinedAll o n .left) (o (suc n)) =
+      subst (λ k. StepsLent program k (o (suc n))) (sym (last-left n)) next in
+      subst (λ k. RunsLent program k l (joinedAll o (suc n))) (omega arith) (runs-lent-add before (step-is-run from) .1)

@@ -1,10 +1,11 @@
--- What two calls, the second from what the first left, answer together: the last number and state, and the counts added.
-use Prim.Native.Nat.{_+_}
-use Rattle.lends.specs.declared.LentRan.{LentRan}
+-- What two calls, the second from what the first left, answer together: the last number, what is left at the end, and the counts added;
+-- and so of the calls 0, 1, .., n.
+use Prim.Native.Nat.{ℕ, zero, suc, _+_}
+use Rattle.lends.specs.Lends.{LentOutcome}
 
-abbrev pub joined : LentRan → LentRan → LentRan
-joined p q = record {
-  number = q .number;
-  steps = p .steps + q .steps;
-  state = q .state;
-}
+abbrev pub joined : LentOutcome → LentOutcome → LentOutcome
+joined p q = record { number = q .number; count = p .count + q .count; left = q .left }
+
+unfoldable pub joinedAll : (ℕ → LentOutcome) → ℕ → LentOutcome
+joinedAll o zero = o 0
+joinedAll o (suc n) = joined (joinedAll o n) (o (suc n))

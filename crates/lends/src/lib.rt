@@ -1,10 +1,10 @@
-// A run over a state as C has it.
+// A run, and a single step, over a state as C has it.
 use border::LentState;
 use border::lent_state;
 use border::state_of;
 use machine::calls::machine_number;
 use machine::calls::run_accepted;
-ghost use Rattle.lends.specs.Lends.{RunsLent};
+ghost use Rattle.lends.specs.Lends.{RunsLent, StepsLent, lent, ran, stepped};
 
 // What a run answers: its number, the steps carried out, and the state.
 #[repr(C)]
@@ -22,7 +22,7 @@ pub fn run_lent(
     state: LentState,
     budget: u64,
 ) -> LentRan
-    ensures { λ r. ⌜ RunsLent (now (program .entry)) budget state (now (memory .entry)) (now (ram .entry)) r (now (memory .exit)) (now (ram .exit)) ⌝ }
+    ensures { λ r. ⌜ RunsLent (now (program .entry)) budget (lent state (now (memory .entry)) (now (ram .entry))) (ran r (now (memory .exit)) (now (ram .exit))) ⌝ }
 {
     let given = state_of(state);
     let number = machine_number(program.len(), memory.len(), ram.len(), given);
@@ -40,5 +40,31 @@ pub fn run_lent(
         number,
         steps: left.steps,
         state,
+    }
+}
+
+// What a step answers: its number, 1 if it was carried out and else 0, and the state.
+#[repr(C)]
+pub struct LentStepped {
+    pub number: u32,
+    pub carried: u32,
+    pub state: LentState,
+}
+
+// A run of one step, whose count is 0 or 1.
+pub fn step_lent(
+    program: &[u32],
+    memory: &mut [u32],
+    ram: &mut [u8],
+    state: LentState,
+) -> LentStepped
+    ensures { λ r. ⌜ StepsLent (now (program .entry)) (lent state (now (memory .entry)) (now (ram .entry))) (stepped r (now (memory .exit)) (now (ram .exit))) ⌝ }
+{
+    let end = run_lent(program, memory, ram, state, 1);
+    let last = end.state;
+    LentStepped {
+        number: end.number,
+        carried: end.steps as u32,
+        state: last,
     }
 }

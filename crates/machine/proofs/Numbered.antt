@@ -9,9 +9,10 @@ use lib.Dec.{ltb, eqb}
 use borrow.Author.Tests.{ltb-false, eqb-true, ne-eqb, not-false}
 use Rattle.rules.specs.Sizes.{ramLimit}
 use Rattle.rules.specs.Numbers.{tooLong}
+use Rattle.instructions.specs.Opcodes.{current}
 use Rattle.instructions.specs.Step.{Machine}
 use Rattle.instructions.specs.Run.{run, steps, illFormed, machineNumber, runNumber}
-use Rattle.instructions.specs.Calls.{Runs}
+use Rattle.instructions.specs.Calls.{outcome, Runs}
 use Rattle.instructions.proofs.Picks.{no-row}
 use Rattle.runs.specs.Runs.{Ready, Ends}
 
@@ -31,7 +32,7 @@ module _ (program : List ℕ) (m : Machine) where
       }
 
   module _ (budget number : ℕ) (h : number ≡ runNumber program m) where
-    pub runs-refused : number ≢ 0 → Runs program budget m number 0 m
+    pub runs-refused : number ≢ 0 → Runs program budget m (outcome number 0 m)
     runs-refused d =
         let f : eqb (runNumber program m) 0 ≡ false = ap (λ (n : ℕ). eqb n 0) (sym h) ∙ ne-eqb number 0 d in
         record { answers = h; counts = rw f; leaves = rw f }
@@ -39,7 +40,7 @@ module _ (program : List ℕ) (m : Machine) where
     pub runs-done : (count : ℕ) (after : Machine)
         → number ≡ 0
         → Ends program budget m count after
-        → Runs program budget m number count after
+        → Runs program budget m (outcome number count after)
     runs-done count after z e =
         let n : runNumber program m ≡ 0 = sym h ∙ z in
         record { answers = h; counts = rw n (e .counts); leaves = rw n (e .leaves) }
@@ -51,6 +52,6 @@ module _ (program : List ℕ) (m : Machine) where
       → Ends program budget first count final
       → Ends program budget m count after
   ends-same {budget} f a e = record {
-    counts = e .counts ∙ ap (steps program budget) f;
-    leaves = a ∙ e .leaves ∙ ap (run program budget) f;
+    counts = e .counts ∙ ap (steps current program budget) f;
+    leaves = a ∙ e .leaves ∙ ap (run current program budget) f;
   }

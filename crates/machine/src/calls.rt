@@ -1,4 +1,4 @@
-// The machine's calls: a fresh state, whether a state is ill-formed, and a run.
+// The machine's calls: a fresh state, whether a state is ill-formed, a run, and a single step.
 use instructions::State;
 use instructions::Tree;
 use leaves::refuses;
@@ -12,7 +12,7 @@ use screen::sizes::too_long;
 ghost use mathlib.Core.Path.{_≡_};
 ghost use Rattle.instructions.specs.Step.{together};
 ghost use Rattle.instructions.specs.Run.{illFormed, machineNumber, runNumber};
-ghost use Rattle.instructions.specs.Calls.{Fresh, Runs};
+ghost use Rattle.instructions.specs.Calls.{Fresh, Runs, StepsOnce, outcome};
 ghost use Rattle.runs.specs.Runs.{Ends};
 
 // What a run answers: its number, the steps carried out, and the state.
@@ -136,7 +136,7 @@ pub fn run_machine(
     state: State,
     budget: u64,
 ) -> Ran
-    ensures { λ r. ⌜ Runs (now (program .entry)) budget (together state (now (memory .entry)) (now (ram .entry))) (r .number) (r .steps) (together (r .state) (now (memory .exit)) (now (ram .exit))) ⌝ }
+    ensures { λ r. ⌜ Runs (now (program .entry)) budget (together state (now (memory .entry)) (now (ram .entry))) (outcome (r .number) (r .steps) (together (r .state) (now (memory .exit)) (now (ram .exit)))) ⌝ }
 {
     let number = machine_number(program.len(), memory.len(), ram.len(), state);
     if number != 0 {
@@ -151,6 +151,26 @@ pub fn run_machine(
     Ran {
         number,
         steps: left.steps,
+        state: last,
+    }
+}
+
+// What a step answers: its number, whether it was carried out, and the state.
+pub struct Stepped {
+    pub number: u32,
+    pub carried: bool,
+    pub state: State,
+}
+
+// One step. It is a run of one, so that there is one run, with one loop, in the library.
+pub fn step(program: &[u32], memory: &mut [u32], ram: &mut [u8], state: State) -> Stepped
+    ensures { λ r. ⌜ StepsOnce (now (program .entry)) (together state (now (memory .entry)) (now (ram .entry))) (r .number) (r .carried) (together (r .state) (now (memory .exit)) (now (ram .exit))) ⌝ }
+{
+    let ran = run_machine(program, memory, ram, state, 1);
+    let last = ran.state;
+    Stepped {
+        number: ran.number,
+        carried: ran.steps == 1,
         state: last,
     }
 }

@@ -2,7 +2,9 @@
 use border::LentState;
 use border::lent_state;
 use lends::LentRan;
+use lends::LentStepped;
 use lends::run_lent;
+use lends::step_lent;
 use reader::RowPart;
 use rules::Drawn;
 use rules::Screen;
@@ -10,7 +12,7 @@ use rules::Triangle;
 ghost use lib.ListN.{length};
 ghost use Rattle.rules.specs.Calls.{Clears, Draws};
 ghost use Rattle.reader.specs.Rows.{Checks, Locates};
-ghost use Rattle.lends.specs.Lends.{Lends, RunsLent};
+ghost use Rattle.lends.specs.Lends.{Lends, RunsLent, StepsLent, lent, ran, stepped};
 
 #[no_mangle]
 pub extern "C" fn merikohin_clear(ram: &mut [u8], s: Screen, colour: u16, depth: u16) -> u32
@@ -55,7 +57,19 @@ pub extern "C" fn merikohin_run(
     state: LentState,
     budget: u64,
 ) -> LentRan
-    ensures { λ r. ⌜ RunsLent (now (program .entry)) budget state (now (memory .entry)) (now (ram .entry)) r (now (memory .exit)) (now (ram .exit)) ⌝ }
+    ensures { λ r. ⌜ RunsLent (now (program .entry)) budget (lent state (now (memory .entry)) (now (ram .entry))) (ran r (now (memory .exit)) (now (ram .exit))) ⌝ }
 {
     run_lent(program, memory, ram, state, budget)
+}
+
+#[no_mangle]
+pub extern "C" fn merikohin_step(
+    program: &[u32],
+    memory: &mut [u32],
+    ram: &mut [u8],
+    state: LentState,
+) -> LentStepped
+    ensures { λ r. ⌜ StepsLent (now (program .entry)) (lent state (now (memory .entry)) (now (ram .entry))) (stepped r (now (memory .exit)) (now (ram .exit))) ⌝ }
+{
+    step_lent(program, memory, ram, state)
 }

@@ -13,7 +13,7 @@ use Rattle.rules.specs.Folds.{bit, choose}
 use Rattle.rules.specs.Triangles.{topHalf}
 use Rattle.instructions.specs.declared.Tree.{Tree}
 use Rattle.instructions.specs.declared.State.{State}
-use Rattle.instructions.specs.Opcodes.{ST, CALL, READ, WRITE, SCRSET, CLS, TREESET, TREEIN, TREEVAL, TREEPUT}
+use Rattle.instructions.specs.Opcodes.{Edition, ST, CALL, READ, WRITE, SCRSET, CLS, TREESET, TREEIN, TREEVAL, TREEPUT}
 use Rattle.instructions.specs.Words.{opcode, imm, inR1, inR2}
 use Rattle.instructions.specs.Arithmetic.{setsFlags}
 use Rattle.instructions.specs.Jumps.{nextPlace}
@@ -75,7 +75,7 @@ module _ (p : Starts) (s : Screen) (r r′ : List ℕ) (same : SamePixels s r (s
       }
 
 -- a machine, and its like with a RAM r
-module _ (p : Starts) (m : Machine) (r : List ℕ)
+module _ (edition : Edition) (p : Starts) (m : Machine) (r : List ℕ)
     (same : SamePixels (m .state .screen) (m .ram) (screenAt p (m .state .screen)) r)
     (good : WellFormed (length (m .ram)) (m .state))
     (good′ : WellFormed (length r) (stateAt p (m .state))) where
@@ -85,7 +85,7 @@ module _ (p : Starts) (m : Machine) (r : List ℕ)
   abbrev st : State
   st = m .state
 
-  effect-alike : (w : ℕ) → NoHalt (length (m .ram)) st w → KeepsToPixels w → Alike p (effect m w) (effect like w)
+  effect-alike : (w : ℕ) → NoHalt edition (length (m .ram)) st w → KeepsToPixels w → Alike p (effect m w) (effect like w)
   unfolding effect afterResult afterST afterCALL afterCLS afterTREESET afterTREEIN afterTREEVAL afterTREEPUT
       grown withRegisters withFlags withTree
   effect-alike w n (noRead, noWrite, noScrset) =
@@ -129,54 +129,55 @@ module _ (p : Starts) (m : Machine) (r : List ℕ)
           (tree-put-paints (screenAt p (st .screen)) r (good′ .screenSound shown) (st .tree) (good′ .treePlace h))
           same
 
-  performed-alike : (w : ℕ) → NoHalt (length (m .ram)) st w → KeepsToPixels w → Alike p (performed m w) (performed like w)
+  performed-alike : (w : ℕ) → NoHalt edition (length (m .ram)) st w → KeepsToPixels w → Alike p (performed m w) (performed like w)
   unfolding performed withPlace nextPlace
   performed-alike w n h =
       let e : Alike p (effect m w) (effect like w) = effect-alike w n h in
       record { state = ap (withPlace (nextPlace st w)) (e .state); memory = e .memory; pixels = e .pixels }
 
-  word-alike : (w : ℕ) → KeepsToPixels w → wordHalt (length r) (stateAt p st) w ≡ wordHalt (length (m .ram)) st w
+  word-alike : (w : ℕ) → KeepsToPixels w → wordHalt edition (length r) (stateAt p st) w ≡ wordHalt edition (length (m .ram)) st w
   unfolding wordHalt moveOutsideRam noScreen noTree refusesPlace
   word-alike w (noRead, noWrite, noScrset) =
       rw (ne-eqb (opcode w) READ noRead, ne-eqb (opcode w) WRITE noWrite, ne-eqb (opcode w) SCRSET noScrset)
 
   -- one step
   module _ (program : List ℕ) (keeps : st .place < length program → KeepsToPixels (wordAt program st)) where
-    halt-alike : nextHalt program like ≡ nextHalt program m
+    halt-alike : nextHalt edition program like ≡ nextHalt edition program m
     unfolding haltNumber
     halt-alike = go (ltb (st .place) (length program)) refl
       where
         go : (t : Bool) → ltb (st .place) (length program) ≡ t
-            → choose (not t) 12 (wordHalt (length r) (stateAt p st) (wordAt program st))
-            ≡ choose (not t) 12 (wordHalt (length (m .ram)) st (wordAt program st))
+            → choose (not t) 12 (wordHalt edition (length r) (stateAt p st) (wordAt program st))
+            ≡ choose (not t) 12 (wordHalt edition (length (m .ram)) st (wordAt program st))
         go true e = word-alike (wordAt program st) (keeps (ltb-true _ _ e))
         go false e = refl
 
-    counted-alike : isCounted program like ≡ isCounted program m
+    counted-alike : isCounted edition program like ≡ isCounted edition program m
     unfolding isCounted
     counted-alike = ap (λ n. not (isHalted m) && eqb n 0) halt-alike
 
-    step-like : Alike p (step program m) (step program like)
-    step-like = go (isHalted m) (eqb (nextHalt program m) 0) refl refl
+    step-like : Alike p (step edition program m) (step edition program like)
+    step-like = go (isHalted m) (eqb (nextHalt edition program m) 0) refl refl
       where
-        counted : isHalted m ≡ false → eqb (nextHalt program m) 0 ≡ true → isCounted program m ≡ true
+        counted : isHalted m ≡ false → eqb (nextHalt edition program m) 0 ≡ true → isCounted edition program m ≡ true
         counted e f = unfold isCounted in rw (e, f)
 
-        go : (a b : Bool) → isHalted m ≡ a → eqb (nextHalt program m) 0 ≡ b → Alike p (step program m) (step program like)
+        go : (a b : Bool) → isHalted m ≡ a → eqb (nextHalt edition program m) 0 ≡ b
+            → Alike p (step edition program m) (step edition program like)
         go true b e f =
-            subst₂ (Alike p) (sym (step-halted program m e)) (sym (step-halted program like e))
+            subst₂ (Alike p) (sym (step-halted edition program m e)) (sym (step-halted edition program like e))
             (record { state = refl; memory = refl; pixels = same })
         go false true e f =
-            let c : isCounted program m ≡ true = counted e f in
-            let none : nextHalt program m ≡ 0 = eqb-true (nextHalt program m) 0 f in
-            subst₂ (Alike p) (sym (step-counted program m c)) (sym (step-counted program like (counted-alike ∙ c)))
+            let c : isCounted edition program m ≡ true = counted e f in
+            let none : nextHalt edition program m ≡ 0 = eqb-true (nextHalt edition program m) 0 f in
+            subst₂ (Alike p) (sym (step-counted edition program m c)) (sym (step-counted edition program like (counted-alike ∙ c)))
             (performed-alike (wordAt program st)
-            (goes-on program (length (m .ram)) st none)
-            (keeps (in-program program (length (m .ram)) st none)))
+            (goes-on edition program (length (m .ram)) st none)
+            (keeps (in-program edition program (length (m .ram)) st none)))
         go false false e f =
             subst₂ (Alike p)
-            (sym (step-halting program m e f))
-            (sym (step-halting program like e (ap (λ n. eqb n 0) halt-alike ∙ f)))
+            (sym (step-halting edition program m e f))
+            (sym (step-halting edition program like e (ap (λ n. eqb n 0) halt-alike ∙ f)))
             (record {
               state = unfold withHalt in ap (λ n. withHalt n (stateAt p st)) halt-alike;
               memory = refl;
@@ -186,19 +187,21 @@ module _ (p : Starts) (m : Machine) (r : List ℕ)
 abbrev IsGood : Machine → Type 0
 IsGood m = illFormed (length (m .ram)) (m .state) ≡ false
 
-module _ (p : Starts) (program : List ℕ) where
+module _ (p : Starts) (edition : Edition) (program : List ℕ) where
   pub step-alike : (m k : Machine)
       → Alike p m k
       → IsGood m
       → IsGood k
       → (m .state .place < length program → KeepsToPixels (wordAt program (m .state)))
-      → Alike p (step program m) (step program k) × (isCounted program k ≡ isCounted program m)
+      → Alike p (step edition program m) (step edition program k) × (isCounted edition program k ≡ isCounted edition program m)
   step-alike m k a good good′ keeps =
-      subst (λ (z : Machine). IsGood z → Alike p (step program m) (step program z) × (isCounted program z ≡ isCounted program m))
+      subst
+      (λ (z : Machine). IsGood z
+      → Alike p (step edition program m) (step edition program z) × (isCounted edition program z ≡ isCounted edition program m))
       (sym is-like)
       (λ g. let f = well-formed-facts good in let f′ = well-formed-facts g in (
-        step-like p m (k .ram) (a .pixels) f f′ program keeps,
-        counted-alike p m (k .ram) (a .pixels) f f′ program keeps,
+        step-like edition p m (k .ram) (a .pixels) f f′ program keeps,
+        counted-alike edition p m (k .ram) (a .pixels) f f′ program keeps,
       ))
       good′
     where
@@ -209,15 +212,15 @@ module _ (p : Starts) (program : List ℕ) where
       → Alike p m k
       → IsGood m
       → IsGood k
-      → ComesTo KeepsToPixels program n m
-      → Alike p (run program n m) (run program n k) × (steps program n k ≡ steps program n m)
+      → ComesTo KeepsToPixels edition program n m
+      → Alike p (run edition program n m) (run edition program n k) × (steps edition program n k ≡ steps edition program n m)
   unfolding run steps
   run-alike zero m k a good good′ h = (a, refl)
   run-alike (suc n) m k a good good′ h =
       let (b, c) = step-alike m k a good good′ (h 0 (omega arith)) in
       let (d, e) =
-      run-alike n (step program m) (step program k) b
-      (step-well-formed program m good) (step-well-formed program k good′)
+      run-alike n (step edition program m) (step edition program k) b
+      (step-well-formed edition program m good) (step-well-formed edition program k good′)
       (λ i l. h (suc i) (omega arith))
       in
       (d, ap₂ (λ t j. bit t + j) c e)

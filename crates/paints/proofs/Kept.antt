@@ -12,7 +12,7 @@ use lib.Dec.{eqb}
 use borrow.Author.Tests.{eqb-true}
 use Rattle.rules.proofs.Pixels.{and-r}
 use Rattle.order.specs.Pointwise.{Elsewhere}
-use Rattle.instructions.specs.Opcodes.{SCRSET, CLS, TREEPUT}
+use Rattle.instructions.specs.Opcodes.{Edition, SCRSET, CLS, TREEPUT}
 use Rattle.instructions.specs.Words.{opcode}
 use Rattle.instructions.specs.Halts.{wordAt}
 use Rattle.instructions.specs.Step.{Machine, withRegisters, withPlace, withFlags, withTree, afterResult, afterST, afterCALL, afterREAD}
@@ -51,48 +51,48 @@ effect-keeps-screen m w d =
 pub drawing-words : (w : ℕ) → CLS ≤ opcode w → KeepsToScreen w × KeepsToPixels w
 drawing-words w h = ((λ e. omega arith, λ e. omega arith), (λ e. omega arith, λ e. omega arith, λ e. omega arith))
 
-module _ (program : List ℕ) where
+module _ (edition : Edition) (program : List ℕ) where
   -- one step
-  module _ (m : Machine) (h : isCounted program m ≡ true → KeepsToScreen (wordAt program (m .state))) where
-    pub step-keeps-screen : step program m .state .screen ≡ m .state .screen
-    step-keeps-screen = go (isCounted program m) refl
+  module _ (m : Machine) (h : isCounted edition program m ≡ true → KeepsToScreen (wordAt program (m .state))) where
+    pub step-keeps-screen : step edition program m .state .screen ≡ m .state .screen
+    step-keeps-screen = go (isCounted edition program m) refl
       where
-        go : (t : Bool) → isCounted program m ≡ t → step program m .state .screen ≡ m .state .screen
+        go : (t : Bool) → isCounted edition program m ≡ t → step edition program m .state .screen ≡ m .state .screen
         go true e =
-            ap (λ k. k .state .screen) (step-counted program m e)
+            ap (λ k. k .state .screen) (step-counted edition program m e)
             ∙ (unfold performed withPlace in effect-keeps-screen m (wordAt program (m .state)) (h e .1))
-        go false e = uncounted-keeps program m e .screen
+        go false e = uncounted-keeps edition program m e .screen
 
     pub step-elsewhere : illFormed (length (m .ram)) (m .state) ≡ false
         → (b : ℕ)
         → Elsewhere (m .state .screen) b
-        → getD (step program m .ram) b 0 ≡ getD (m .ram) b 0
-    step-elsewhere good b o = go (isCounted program m) refl
+        → getD (step edition program m .ram) b 0 ≡ getD (m .ram) b 0
+    step-elsewhere good b o = go (isCounted edition program m) refl
       where
         w : ℕ
         w = wordAt program (m .state)
 
-        by : isCounted program m ≡ true → Dec (opcode w ≡ CLS) → Dec (opcode w ≡ TREEPUT)
-            → getD (step program m .ram) b 0 ≡ getD (m .ram) b 0
-        by e (yes q) f = CLS-paints program m good e w refl q .elsewhere b o
-        by e (no p) (yes q) = TREEPUT-paints program m good e w refl q .elsewhere b o
-        by e (no p) (no q) = ap (λ l. getD l b 0) (paints-nothing program m good e w refl (h e .0) p q)
+        by : isCounted edition program m ≡ true → Dec (opcode w ≡ CLS) → Dec (opcode w ≡ TREEPUT)
+            → getD (step edition program m .ram) b 0 ≡ getD (m .ram) b 0
+        by e (yes q) f = CLS-paints edition program m good e w refl q .elsewhere b o
+        by e (no p) (yes q) = TREEPUT-paints edition program m good e w refl q .elsewhere b o
+        by e (no p) (no q) = ap (λ l. getD l b 0) (paints-nothing edition program m good e w refl (h e .0) p q)
 
-        go : (t : Bool) → isCounted program m ≡ t → getD (step program m .ram) b 0 ≡ getD (m .ram) b 0
+        go : (t : Bool) → isCounted edition program m ≡ t → getD (step edition program m .ram) b 0 ≡ getD (m .ram) b 0
         go true e = by e (ℕ-discrete (opcode w) CLS) (ℕ-discrete (opcode w) TREEPUT)
-        go false e = ap (λ l. getD l b 0) (uncounted-keeps program m e .ram)
+        go false e = ap (λ l. getD l b 0) (uncounted-keeps edition program m e .ram)
 
   pub run-elsewhere : (n : ℕ) (m : Machine)
       → illFormed (length (m .ram)) (m .state) ≡ false
-      → CarriesOut KeepsToScreen program n m
+      → CarriesOut KeepsToScreen edition program n m
       → (b : ℕ)
       → Elsewhere (m .state .screen) b
-      → getD (run program n m .ram) b 0 ≡ getD (m .ram) b 0
+      → getD (run edition program n m .ram) b 0 ≡ getD (m .ram) b 0
   unfolding run
   run-elsewhere zero m good h b o = refl
   run-elsewhere (suc n) m good h b o =
-      let first : isCounted program m ≡ true → KeepsToScreen (wordAt program (m .state)) = h 0 (omega arith) in
-      run-elsewhere n (step program m) (step-well-formed program m good) (λ i l. h (suc i) (omega arith)) b
+      let first : isCounted edition program m ≡ true → KeepsToScreen (wordAt program (m .state)) = h 0 (omega arith) in
+      run-elsewhere n (step edition program m) (step-well-formed edition program m good) (λ i l. h (suc i) (omega arith)) b
       (subst (λ s. Elsewhere s b) (sym (step-keeps-screen m first)) o)
       ∙ step-elsewhere m first good b o
 
@@ -102,12 +102,12 @@ module _ (program : List ℕ) where
       → illFormed (length (m .ram)) (m .state) ≡ false
       → (b : ℕ)
       → Elsewhere (m .state .screen) b
-      → getD (run program n m .ram) b 0 ≡ getD (m .ram) b 0
+      → getD (run edition program n m .ram) b 0 ≡ getD (m .ram) b 0
   unfolding isCounted
   program-elsewhere h n m good =
       run-elsewhere n m good
       (λ i l c.
-      let k = run program i m in
+      let k = run edition program i m in
       h (k .state .place)
-      (in-program program (length (k .ram)) (k .state)
-      (eqb-true (nextHalt program k) 0 (and-r (not (isHalted k)) (eqb (nextHalt program k) 0) c))))
+      (in-program edition program (length (k .ram)) (k .state)
+      (eqb-true (nextHalt edition program k) 0 (and-r (not (isHalted k)) (eqb (nextHalt edition program k) 0) c))))

@@ -14,7 +14,7 @@ use Rattle.rules.specs.Sizes.{width, height}
 use Rattle.rules.specs.Triangles.{topHalf}
 use Rattle.rules.proofs.Pixels.{and-r}
 use Rattle.instructions.specs.declared.Tree.{Tree}
-use Rattle.instructions.specs.Opcodes.{WRITE, CLS, TREESET, TREEIN, TREEVAL, TREEPUT}
+use Rattle.instructions.specs.Opcodes.{Edition, WRITE, CLS, TREESET, TREEIN, TREEVAL, TREEPUT}
 use Rattle.instructions.specs.Words.{opcode, imm, inR1, inR2}
 use Rattle.instructions.specs.Arithmetic.{lowHalf}
 use Rattle.instructions.specs.Tree.{markI, markO, leafColour, leafValue}
@@ -61,20 +61,24 @@ pub record Untouched (m k : Machine) : Type 0 where
   pub screen : k .state .screen ≡ m .state .screen
   pub ram : k .ram ≡ m .ram
 
-pub uncounted-keeps : (program : List ℕ) (m : Machine) → isCounted program m ≡ false → Untouched m (step program m)
+pub uncounted-keeps : (edition : Edition) (program : List ℕ) (m : Machine)
+    → isCounted edition program m ≡ false
+    → Untouched m (step edition program m)
 unfolding step isCounted withHalt
-uncounted-keeps program m e = go (isHalted m) (eqb (nextHalt program m) 0) e
+uncounted-keeps edition program m e = go (isHalted m) (eqb (nextHalt edition program m) 0) e
   where
     go : (a b : Bool) → (not a && b) ≡ false
         → Untouched m
         (choose a m
-        (choose b (performed m (wordAt program (m .state))) (withState (withHalt (nextHalt program m) (m .state)) m)))
+        (choose b (performed m (wordAt program (m .state))) (withState (withHalt (nextHalt edition program m) (m .state)) m)))
     go true b e = record { screen = refl; ram = refl }
     go false true e = absurd (true≢false e)
     go false false e = record { screen = refl; ram = refl }
 
 -- a step that is carried out, of a well-formed state
-module _ (program : List ℕ) (m : Machine) (good : illFormed (length (m .ram)) (m .state) ≡ false) (c : isCounted program m ≡ true) where
+module _ (edition : Edition) (program : List ℕ) (m : Machine)
+    (good : illFormed (length (m .ram)) (m .state) ≡ false)
+    (c : isCounted edition program m ≡ true) where
   abbrev regs : List ℕ
   regs = m .state .regs
 
@@ -87,29 +91,30 @@ module _ (program : List ℕ) (m : Machine) (good : illFormed (length (m .ram)) 
   facts : WellFormed (length (m .ram)) (m .state)
   facts = well-formed-facts good
 
-  no-halt : NoHalt (length (m .ram)) (m .state) (wordAt program (m .state))
+  no-halt : NoHalt edition (length (m .ram)) (m .state) (wordAt program (m .state))
   unfolding isCounted
   no-halt =
-      goes-on program (length (m .ram)) (m .state)
-      (eqb-true (nextHalt program m) 0 (and-r (not (isHalted m)) (eqb (nextHalt program m) 0) c))
+      goes-on edition program (length (m .ram)) (m .state)
+      (eqb-true (nextHalt edition program m) 0 (and-r (not (isHalted m)) (eqb (nextHalt edition program m) 0) c))
 
-  ram-after : step program m .ram ≡ effect m (wordAt program (m .state)) .ram
+  ram-after : step edition program m .ram ≡ effect m (wordAt program (m .state)) .ram
   unfolding performed
-  ram-after = ap (λ k. k .ram) (step-counted program m c)
+  ram-after = ap (λ k. k .ram) (step-counted edition program m c)
 
   module _ (w : ℕ) (at : wordAt program (m .state) ≡ w) where
-    here : NoHalt (length (m .ram)) (m .state) w
+    here : NoHalt edition (length (m .ram)) (m .state) w
     here = rw at at no-halt
 
     -- every pixel of the screen gets the low halves of r1 and of r2
     pub CLS-paints : opcode w ≡ CLS
-        → PaintedWith screen (everywhere (lowHalf (inR1 regs w))) (everywhere (lowHalf (inR2 regs w))) (m .ram) (step program m .ram)
+        → PaintedWith screen (everywhere (lowHalf (inR1 regs w))) (everywhere (lowHalf (inR2 regs w)))
+        (m .ram) (step edition program m .ram)
     unfolding afterCLS
     CLS-paints e =
         rw (ram-after, at, effect-CLS m w e)
         (clear-paints screen (m .ram) (facts .screenSound (CLS-shown here e)) (lowHalf (inR1 regs w)) (lowHalf (inR2 regs w)))
 
-    pub TREEPUT-paints : opcode w ≡ TREEPUT → PaintedWith screen (leafColours tree) (leafDepths tree) (m .ram) (step program m .ram)
+    pub TREEPUT-paints : opcode w ≡ TREEPUT → PaintedWith screen (leafColours tree) (leafDepths tree) (m .ram) (step edition program m .ram)
     unfolding afterTREEPUT
     TREEPUT-paints e =
         let planted = TREEPUT-planted here e in
@@ -117,27 +122,27 @@ module _ (program : List ℕ) (m : Machine) (good : illFormed (length (m .ram)) 
         (tree-put-paints screen (m .ram) (facts .screenSound (facts .treeShown planted)) tree (facts .treePlace planted))
 
     -- all others but WRITE
-    pub paints-nothing : opcode w ≢ WRITE → opcode w ≢ CLS → opcode w ≢ TREEPUT → step program m .ram ≡ m .ram
+    pub paints-nothing : opcode w ≢ WRITE → opcode w ≢ CLS → opcode w ≢ TREEPUT → step edition program m .ram ≡ m .ram
     paints-nothing p q r = ram-after ∙ ap (λ v. effect m v .ram) at ∙ effect-keeps-ram m w p q r
 
-    pub TREESET-paints-nothing : opcode w ≡ TREESET → step program m .ram ≡ m .ram
+    pub TREESET-paints-nothing : opcode w ≡ TREESET → step edition program m .ram ≡ m .ram
     TREESET-paints-nothing e = paints-nothing (λ q. omega arith) (λ q. omega arith) (λ q. omega arith)
 
-    pub TREEIN-paints-nothing : opcode w ≡ TREEIN → step program m .ram ≡ m .ram
+    pub TREEIN-paints-nothing : opcode w ≡ TREEIN → step edition program m .ram ≡ m .ram
     TREEIN-paints-nothing e = paints-nothing (λ q. omega arith) (λ q. omega arith) (λ q. omega arith)
 
-    pub TREEVAL-paints-nothing : opcode w ≡ TREEVAL → step program m .ram ≡ m .ram
+    pub TREEVAL-paints-nothing : opcode w ≡ TREEVAL → step edition program m .ram ≡ m .ram
     TREEVAL-paints-nothing e = paints-nothing (λ q. omega arith) (λ q. omega arith) (λ q. omega arith)
 
     -- TREEVAL 0 judges each leaf against the stored depth of its pixel, a pixel of the screen
     pub TREEVAL-judges : opcode w ≡ TREEVAL → imm w ≡ 0 → (k : ℕ) → k < 16
-        → Leaf (step program m .state .tree) k
+        → Leaf (step edition program m .state .tree) k
         (markI tree k && not (behindPixel screen (m .ram) tree (inR1 regs w) (inR2 regs w) k))
         (markO tree k || behindPixel screen (m .ram) tree (inR1 regs w) (inR2 regs w) k)
         (leafColour tree k)
         (topHalf (leafValue (inR1 regs w) (inR2 regs w) k))
     TREEVAL-judges e z k h =
-        rw (tree-TREEVAL program m c w at e, z) (leaf-TREEVAL-depth h (inR1 regs w) (inR2 regs w) tree screen (m .ram))
+        rw (tree-TREEVAL edition program m c w at e, z) (leaf-TREEVAL-depth h (inR1 regs w) (inR2 regs w) tree screen (m .ram))
 
     pub TREEVAL-on-screen : opcode w ≡ TREEVAL → (k : ℕ) → k < 16
         → (leafColumn tree k < width (screen .size)) × (tree .row < height (screen .size))

@@ -10,6 +10,7 @@ use Rattle.rules.specs.Sizes.{sound}
 use Rattle.rules.proofs.Choices.{not-leb}
 use Rattle.instructions.specs.declared.State.{State}
 use Rattle.instructions.specs.Opcodes.{LD, ST, JGEL, DOT, READ, WRITE, SCRSET, CLS, TREESET, TREEIN, TREEVAL, TREEPUT}
+use Rattle.instructions.specs.Opcodes.{current, isRetired, noInstruction}
 use Rattle.instructions.specs.Words.{opcode, imm, inR1, inR2, inR3, address}
 use Rattle.instructions.specs.Tree.{refusesPlace}
 use Rattle.instructions.specs.Halts.{outsideData, moveOutsideData, moveOutsideRam, noScreen, noTree, screenSet, wordHalt}
@@ -20,8 +21,8 @@ or-false false = refl
 
 module _ (ramLength : ℕ) (s : State) (w : ℕ) where
   -- from LI to JGEL there is none
-  pub case-none : ST < opcode w → opcode w ≤ JGEL → wordHalt ramLength s w ≡ 0
-  unfolding wordHalt outsideData moveOutsideData moveOutsideRam noScreen noTree
+  pub case-none : ST < opcode w → opcode w ≤ JGEL → wordHalt current ramLength s w ≡ 0
+  unfolding isRetired noInstruction wordHalt outsideData moveOutsideData moveOutsideRam noScreen noTree
   case-none l h =
       rw (
         le-ltb TREEPUT (opcode w) (omega arith),
@@ -38,17 +39,17 @@ module _ (ramLength : ℕ) (s : State) (w : ℕ) where
         ne-eqb (opcode w) TREEPUT (λ q. omega arith),
       )
 
-  pub case-LD : opcode w ≡ LD → wordHalt ramLength s w ≡ choose (ltb 1023 (address (s .regs) w)) 13 0
-  unfolding wordHalt outsideData moveOutsideData moveOutsideRam noScreen noTree
+  pub case-LD : opcode w ≡ LD → wordHalt current ramLength s w ≡ choose (ltb 1023 (address (s .regs) w)) 13 0
+  unfolding isRetired noInstruction wordHalt outsideData moveOutsideData moveOutsideRam noScreen noTree
   case-LD e = rw e (ap (λ b. choose b 13 0) (or-false (ltb 1023 (address (s .regs) w))))
 
-  pub case-ST : opcode w ≡ ST → wordHalt ramLength s w ≡ choose (ltb 1023 (address (s .regs) w)) 13 0
-  unfolding wordHalt outsideData moveOutsideData moveOutsideRam noScreen noTree
+  pub case-ST : opcode w ≡ ST → wordHalt current ramLength s w ≡ choose (ltb 1023 (address (s .regs) w)) 13 0
+  unfolding isRetired noInstruction wordHalt outsideData moveOutsideData moveOutsideRam noScreen noTree
   case-ST e = rw e (ap (λ b. choose b 13 0) (or-false (ltb 1023 (address (s .regs) w))))
 
   pub case-DOT : opcode w ≡ DOT
-      → wordHalt ramLength s w ≡ choose (ltb 1020 (inR2 (s .regs) w) || ltb 1020 (inR3 (s .regs) w)) 13 0
-  unfolding wordHalt outsideData moveOutsideData moveOutsideRam noScreen noTree
+      → wordHalt current ramLength s w ≡ choose (ltb 1020 (inR2 (s .regs) w) || ltb 1020 (inR3 (s .regs) w)) 13 0
+  unfolding isRetired noInstruction wordHalt outsideData moveOutsideData moveOutsideRam noScreen noTree
   case-DOT e = rw e
 
   -- READ and WRITE have the same
@@ -57,42 +58,42 @@ module _ (ramLength : ℕ) (s : State) (w : ℕ) where
       choose (ltb 1008 (inR1 (s .regs) w)) 15
       (choose (not (eqb (inR2 (s .regs) w % 4) 0) || ltb ramLength (inR2 (s .regs) w + 64)) 16 0)
 
-  pub case-READ : opcode w ≡ READ → wordHalt ramLength s w ≡ moveHalt
-  unfolding wordHalt outsideData moveOutsideData moveOutsideRam noScreen noTree
+  pub case-READ : opcode w ≡ READ → wordHalt current ramLength s w ≡ moveHalt
+  unfolding isRetired noInstruction wordHalt outsideData moveOutsideData moveOutsideRam noScreen noTree
   case-READ e = rw (e, not-leb (inR2 (s .regs) w + 64) ramLength)
 
-  pub case-WRITE : opcode w ≡ WRITE → wordHalt ramLength s w ≡ moveHalt
-  unfolding wordHalt outsideData moveOutsideData moveOutsideRam noScreen noTree
+  pub case-WRITE : opcode w ≡ WRITE → wordHalt current ramLength s w ≡ moveHalt
+  unfolding isRetired noInstruction wordHalt outsideData moveOutsideData moveOutsideRam noScreen noTree
   case-WRITE e = rw (e, not-leb (inR2 (s .regs) w + 64) ramLength)
 
-  pub case-SCRSET : opcode w ≡ SCRSET → wordHalt ramLength s w ≡ choose (not (sound ramLength (screenSet (s .regs) w))) 17 0
-  unfolding wordHalt outsideData moveOutsideData moveOutsideRam noScreen noTree
+  pub case-SCRSET : opcode w ≡ SCRSET → wordHalt current ramLength s w ≡ choose (not (sound ramLength (screenSet (s .regs) w))) 17 0
+  unfolding isRetired noInstruction wordHalt outsideData moveOutsideData moveOutsideRam noScreen noTree
   case-SCRSET e = rw e (ap (λ b. choose b 17 0) (or-false (not (sound ramLength (screenSet (s .regs) w)))))
 
-  pub case-CLS : opcode w ≡ CLS → wordHalt ramLength s w ≡ choose (not (s .shown)) 17 0
-  unfolding wordHalt outsideData moveOutsideData moveOutsideRam noScreen noTree
+  pub case-CLS : opcode w ≡ CLS → wordHalt current ramLength s w ≡ choose (not (s .shown)) 17 0
+  unfolding isRetired noInstruction wordHalt outsideData moveOutsideData moveOutsideRam noScreen noTree
   case-CLS e = rw e
 
   pub case-TREESET : opcode w ≡ TREESET
-      → wordHalt ramLength s w
+      → wordHalt current ramLength s w
       ≡ choose (not (s .shown)) 17 (choose (refusesPlace (s .screen) (inR1 (s .regs) w) (inR2 (s .regs) w)) 14 0)
-  unfolding wordHalt outsideData moveOutsideData moveOutsideRam noScreen noTree
+  unfolding isRetired noInstruction wordHalt outsideData moveOutsideData moveOutsideRam noScreen noTree
   case-TREESET e =
       let r = refusesPlace (s .screen) (inR1 (s .regs) w) (inR2 (s .regs) w) in
       rw e (ap (λ b. choose (not (s .shown)) 17 (choose b 14 0)) (or-false (r || false) ∙ or-false r))
 
-  pub case-TREEIN : opcode w ≡ TREEIN → wordHalt ramLength s w ≡ choose (not (s .planted)) 14 0
-  unfolding wordHalt outsideData moveOutsideData moveOutsideRam noScreen noTree
+  pub case-TREEIN : opcode w ≡ TREEIN → wordHalt current ramLength s w ≡ choose (not (s .planted)) 14 0
+  unfolding isRetired noInstruction wordHalt outsideData moveOutsideData moveOutsideRam noScreen noTree
   case-TREEIN e = rw e (ap (λ b. choose b 14 0) (or-false (not (s .planted))))
 
-  pub case-TREEVAL : opcode w ≡ TREEVAL → wordHalt ramLength s w ≡ choose (not (s .planted) || ltb 3 (imm w)) 14 0
-  unfolding wordHalt outsideData moveOutsideData moveOutsideRam noScreen noTree
+  pub case-TREEVAL : opcode w ≡ TREEVAL → wordHalt current ramLength s w ≡ choose (not (s .planted) || ltb 3 (imm w)) 14 0
+  unfolding isRetired noInstruction wordHalt outsideData moveOutsideData moveOutsideRam noScreen noTree
   case-TREEVAL e = rw e
 
-  pub case-TREEPUT : opcode w ≡ TREEPUT → wordHalt ramLength s w ≡ choose (not (s .planted)) 14 0
-  unfolding wordHalt outsideData moveOutsideData moveOutsideRam noScreen noTree
+  pub case-TREEPUT : opcode w ≡ TREEPUT → wordHalt current ramLength s w ≡ choose (not (s .planted)) 14 0
+  unfolding isRetired noInstruction wordHalt outsideData moveOutsideData moveOutsideRam noScreen noTree
   case-TREEPUT e = rw e (ap (λ b. choose b 14 0) (or-false (not (s .planted))))
 
-  pub case-above : TREEPUT < opcode w → wordHalt ramLength s w ≡ 11
-  unfolding wordHalt
+  pub case-above : TREEPUT < opcode w → wordHalt current ramLength s w ≡ 11
+  unfolding isRetired noInstruction wordHalt
   case-above h = rw (lt-ltb TREEPUT (opcode w) h)

@@ -9,7 +9,7 @@ use lib.ListN.{length}
 use lib.Dec.{leb}
 use borrow.Author.Tests.{lt-leb, le-leb, ne-eqb}
 use Rattle.rules.specs.Folds.{choose}
-use Rattle.instructions.specs.Opcodes.{ST, LI, ASRI, JMP, CALL, JGEL}
+use Rattle.instructions.specs.Opcodes.{current, ST, LI, ASRI, JMP, CALL, JGEL}
 use Rattle.instructions.specs.Words.{opcode, r1, address, withRegister}
 use Rattle.instructions.specs.Arithmetic.{result, setsFlags}
 use Rattle.instructions.specs.Jumps.{goes, isJump, nextPlace}
@@ -35,7 +35,7 @@ module _ (regs : List ℕ) (cpu : Cpu) (view : View) (memory ram : List ℕ) (w 
   before = machine regs cpu view memory ram
 
   abbrev halt : ℕ
-  halt = wordHalt (length ram) (joined regs cpu view) w
+  halt = wordHalt current (length ram) (joined regs cpu view) w
 
   pub stops : (n : ℕ) (cpu′ : Cpu) → cpu′ ≡ stopped n cpu → halt ≡ n → n ≢ 0 → machine regs cpu′ view memory ram ≡ stepped before w
   unfolding stepped withHalt

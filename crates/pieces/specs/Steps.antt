@@ -7,6 +7,7 @@ use lib.ListN.{length}
 use lib.Dec.{eqb}
 use Rattle.rules.specs.Folds.{choose}
 use Rattle.rules.specs.Sizes.{ramLimit, sound}
+use Rattle.instructions.specs.Opcodes.{current}
 use Rattle.instructions.specs.Words.{register}
 use Rattle.instructions.specs.Tree.{refusesPlace}
 use Rattle.instructions.specs.Halts.{wordHalt}
@@ -18,8 +19,8 @@ use Rattle.pieces.specs.Pieces.{machine}
 -- the step of a state that is not halted, at the word w
 unfoldable pub stepped : Machine → ℕ → Machine
 stepped m w =
-    choose (eqb (wordHalt (length (m .ram)) (m .state) w) 0) (performed m w)
-    (withState (withHalt (wordHalt (length (m .ram)) (m .state) w) (m .state)) m)
+    choose (eqb (wordHalt current (length (m .ram)) (m .state) w) 0) (performed m w)
+    (withState (withHalt (wordHalt current (length (m .ram)) (m .state) w) (m .state)) m)
 
 -- "R0 is always 0", and the place is in a program of at most 1,024 words
 pub record Going (regs : List ℕ) (cpu : Cpu) : Type 0 where

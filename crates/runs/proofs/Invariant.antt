@@ -8,6 +8,7 @@ use native.Mathlib.Omega.{arith}
 use lib.ListN.{length}
 use borrow.Author.Tests.{lt-ltb, le-ltb, eq-eqb, ne-eqb}
 use Rattle.rules.specs.Folds.{bit}
+use Rattle.instructions.specs.Opcodes.{current}
 use Rattle.instructions.specs.Halts.{wordAt, haltNumber}
 use Rattle.instructions.specs.Step.{Machine, withState, withHalt, isHalted, step}
 use Rattle.instructions.specs.Run.{run, isCounted, steps}
@@ -22,11 +23,11 @@ use Rattle.runs.specs.Runs.{Ready, Ends}
 
 module _ (program : List ℕ) (m : Machine) (h : m .state .halt ≡ 0) where
   -- a step past the program, and one in it
-  pub step-past : length program ≤ m .state .place → withState (withHalt 12 (m .state)) m ≡ step program m
+  pub step-past : length program ≤ m .state .place → withState (withHalt 12 (m .state)) m ≡ step current program m
   unfolding step haltNumber
   step-past p = rw (h, le-ltb (m .state .place) (length program) p)
 
-  pub step-in : m .state .place < length program → stepped m (wordAt program (m .state)) ≡ step program m
+  pub step-in : m .state .place < length program → stepped m (wordAt program (m .state)) ≡ step current program m
   unfolding step haltNumber stepped
   step-in p = rw (h, lt-ltb (m .state .place) (length program) p)
 
@@ -36,7 +37,7 @@ module _ (program : List ℕ) (m : Machine) (h : m .state .halt ≡ 0) where
 pub stops-past : (program regs : List ℕ) (cpu : Cpu) (view : View) (memory ram : List ℕ)
     → cpu .halt ≡ 0
     → length program ≤ cpu .place
-    → machine regs (stopped 12 cpu) view memory ram ≡ step program (machine regs cpu view memory ram)
+    → machine regs (stopped 12 cpu) view memory ram ≡ step current program (machine regs cpu view memory ram)
 unfolding withHalt
 stops-past program regs cpu view memory ram h p = step-past program (machine regs cpu view memory ram) h p
 
@@ -52,8 +53,8 @@ ready-shows r =
 
 pub record Kept (program : List ℕ) (budget : ℕ) (first : Machine) (done : ℕ) (m : Machine) : Type 0 where
   pub within : done ≤ budget
-  pub leftToRun : run program (budget - done) m ≡ run program budget first
-  pub leftToCount : done + steps program (budget - done) m ≡ steps program budget first
+  pub leftToRun : run current program (budget - done) m ≡ run current program budget first
+  pub leftToCount : done + steps current program (budget - done) m ≡ steps current program budget first
   pub goes : m .state .halt ≡ 0
   pub ready : Ready program m
   pub sameRam : length (m .ram) ≡ length (first .ram)
@@ -62,7 +63,7 @@ module _ (program : List ℕ) (budget : ℕ) where
   pub halted-ends : (m : Machine) → m .state .halt ≢ 0 → Ends program budget m 0 m
   halted-ends m d =
       let h : isHalted m ≡ true = ap not (ne-eqb (m .state .halt) 0 d) in
-      record { counts = sym (steps-halted program budget m h); leaves = sym (run-halted program budget m h) }
+      record { counts = sym (steps-halted current program budget m h); leaves = sym (run-halted current program budget m h) }
 
   pub kept-start : (m : Machine) → Ready program m → m .state .halt ≡ 0 → Kept program budget m 0 m
   kept-start m r h =
@@ -81,63 +82,65 @@ module _ {program : List ℕ} {budget : ℕ} {first : Machine} {done : ℕ} {m :
   unfolding run steps
   kept-end h =
       let e : budget - done ≡ 0 = omega arith in
-      let c : done + steps program 0 m ≡ steps program budget first = rw e at (k .leftToCount) in
-      let r : run program 0 m ≡ run program budget first = rw e at (k .leftToRun) in
+      let c : done + steps current program 0 m ≡ steps current program budget first = rw e at (k .leftToCount) in
+      let r : run current program 0 m ≡ run current program budget first = rw e at (k .leftToRun) in
       record { counts = omega (arith, c); leaves = r }
 
-  module _ (l : done < budget) (m′ : Machine) (s : m′ ≡ step program m) where
+  module _ (l : done < budget) (m′ : Machine) (s : m′ ≡ step current program m) where
     one-less : budget - done ≡ suc (budget - (done + 1))
     one-less = omega arith
 
-    run-on : run program (budget - (done + 1)) m′ ≡ run program budget first
+    run-on : run current program (budget - (done + 1)) m′ ≡ run current program budget first
     unfolding run
-    run-on = ap (run program (budget - (done + 1))) s ∙ (rw one-less at (k .leftToRun))
+    run-on = ap (run current program (budget - (done + 1))) s ∙ (rw one-less at (k .leftToRun))
 
-    count-on : done + (bit (isCounted program m) + steps program (budget - (done + 1)) m′) ≡ steps program budget first
+    count-on : done + (bit (isCounted current program m) + steps current program (budget - (done + 1)) m′)
+        ≡ steps current program budget first
     unfolding steps
     count-on =
-        ap (λ (x : Machine). done + (bit (isCounted program m) + steps program (budget - (done + 1)) x)) s
+        ap (λ (x : Machine). done + (bit (isCounted current program m) + steps current program (budget - (done + 1)) x)) s
         ∙ (rw one-less at (k .leftToCount))
 
     pub kept-stop : m′ .state .halt ≢ 0 → Ends program budget first done m′
     kept-stop d =
         let h : isHalted m′ ≡ true = ap not (ne-eqb (m′ .state .halt) 0 d) in
-        let r : run program (budget - (done + 1)) m′ ≡ m′ = run-halted program (budget - (done + 1)) m′ h in
-        let z : steps program (budget - (done + 1)) m′ ≡ 0 = steps-halted program (budget - (done + 1)) m′ h in
-        let b : isCounted program m ≡ false = uncounted (isCounted program m) refl h in
-        let e : done + (bit false + 0) ≡ steps program budget first = rw (b, z) at count-on in
+        let r : run current program (budget - (done + 1)) m′ ≡ m′ = run-halted current program (budget - (done + 1)) m′ h in
+        let z : steps current program (budget - (done + 1)) m′ ≡ 0 = steps-halted current program (budget - (done + 1)) m′ h in
+        let b : isCounted current program m ≡ false = uncounted (isCounted current program m) refl h in
+        let e : done + (bit false + 0) ≡ steps current program budget first = rw (b, z) at count-on in
         record { counts = omega (arith, e); leaves = sym r ∙ run-on }
       where
-        uncounted : (b : Bool) → isCounted program m ≡ b → isHalted m′ ≡ true → isCounted program m ≡ false
+        uncounted : (b : Bool) → isCounted current program m ≡ b → isHalted m′ ≡ true → isCounted current program m ≡ false
         uncounted false e h = e
         uncounted true e h =
-            absurd (false≢true (sym (counted-goes-on program m e) ∙ ap isHalted (sym s) ∙ h))
+            absurd (false≢true (sym (counted-goes-on current program m e) ∙ ap isHalted (sym s) ∙ h))
 
     pub kept-turn : m′ .state .halt ≡ 0 → Kept program budget first (done + 1) m′
     kept-turn h =
-        let b : isCounted program m ≡ true = counted (isCounted program m) refl in
-        let e : done + (bit true + steps program (budget - (done + 1)) m′) ≡ steps program budget first = rw b at count-on in
+        let b : isCounted current program m ≡ true = counted (isCounted current program m) refl in
+        let left : ℕ = steps current program (budget - (done + 1)) m′ in
+        let e : done + (bit true + left) ≡ steps current program budget first = rw b at count-on in
         record {
           within = omega arith;
           leftToRun = run-on;
           leftToCount = omega (arith, e);
           goes = h;
           ready = still;
-          sameRam = ap (λ (x : Machine). length (x .ram)) s ∙ step-keeps-lengths program m .ram ∙ k .sameRam;
+          sameRam = ap (λ (x : Machine). length (x .ram)) s ∙ step-keeps-lengths current program m .ram ∙ k .sameRam;
         }
       where
-        counted : (b : Bool) → isCounted program m ≡ b → isCounted program m ≡ true
+        counted : (b : Bool) → isCounted current program m ≡ b → isCounted current program m ≡ true
         counted true e = e
-        counted false e = absurd (false≢true (sym (running program m′ h) ∙ ap isHalted s ∙ uncounted-stops program m e))
+        counted false e = absurd (false≢true (sym (running program m′ h) ∙ ap isHalted s ∙ uncounted-stops current program m e))
 
         still : Ready program m′
         still =
             let r = k .ready in
-            let lengths = step-keeps-lengths program m in
+            let lengths = step-keeps-lengths current program m in
             subst (Ready program) (sym s)
             (record {
               short = r .short;
               size = lengths .memory ∙ r .size;
               limit = rw (lengths .ram) (r .limit);
-              wellFormed = step-well-formed program m (r .wellFormed);
+              wellFormed = step-well-formed current program m (r .wellFormed);
             })

@@ -5,6 +5,7 @@ use mathlib.Core.Bool.{false}
 use mathlib.Core.List.{List}
 use lib.ListN.{length}
 use Rattle.rules.specs.Sizes.{ramLimit}
+use Rattle.instructions.specs.Opcodes.{current}
 use Rattle.instructions.specs.Step.{Machine}
 use Rattle.instructions.specs.Run.{run, steps, illFormed}
 
@@ -16,5 +17,5 @@ pub record Ready (program : List ℕ) (m : Machine) : Type 0 where
   pub wellFormed : illFormed (length (m .ram)) (m .state) ≡ false
 
 pub record Ends (program : List ℕ) (budget : ℕ) (m : Machine) (count : ℕ) (after : Machine) : Type 0 where
-  pub counts : count ≡ steps program budget m
-  pub leaves : after ≡ run program budget m
+  pub counts : count ≡ steps current program budget m
+  pub leaves : after ≡ run current program budget m

@@ -4,6 +4,7 @@ use mathlib.Core.List.{map}
 use Rattle.ints.specs.Modulo.{mod32}
 use Rattle.rules.specs.Folds.{howMany, pixels}
 use Rattle.rules.specs.Triangles.{sample, edgeValue, keepsZero, inside, insideAll, covered}
+use Rattle.instructions.specs.Opcodes.{isRetired, noInstruction}
 use Rattle.instructions.specs.Words.{withRegister, signExtended, address}
 use Rattle.instructions.specs.Arithmetic.{roundedProduct, reciprocal, immediate, shiftAmount, shiftedSigned, dot, value, result}
 use Rattle.instructions.specs.Jumps.{nextPlace}
@@ -14,6 +15,6 @@ use Rattle.starred.specs.Table.{starred}
 
 pub starred-hold : map (λ c. c .gives) starred ≡ map (λ c. c .says) starred
 unfolding starred pixels howMany covered insideAll inside keepsZero edgeValue sample freshState step performed effect afterResult
-    withFlags withPlace withRegisters haltNumber wordHalt outsideData moveOutsideData moveOutsideRam noScreen noTree nextPlace result
-    value dot roundedProduct reciprocal immediate shiftedSigned shiftAmount address signExtended withRegister mod32
+    withFlags withPlace withRegisters haltNumber wordHalt isRetired noInstruction outsideData moveOutsideData moveOutsideRam noScreen noTree
+    nextPlace result value dot roundedProduct reciprocal immediate shiftedSigned shiftAmount address signExtended withRegister mod32
 starred-hold = refl

@@ -9,6 +9,7 @@ use Rattle.rules.specs.Triangles.{planeAt, topHalf, packed, triangleDepth, tria
 use Rattle.rules.specs.Triangles.{insideAll, covered, written, pixelDrawn, rowDrawn, drawn}
 use Rattle.rules.specs.Numbers.{verticesInRange, edgeTooLarge, triangleTooLarge, rowNumber, triangleNumber}
 use Rattle.rules.specs.Calls.{cleared, rowStart, rowLength}
+use Rattle.instructions.specs.Opcodes.{isRetired, noInstruction}
 use Rattle.instructions.specs.Words.{withRegister, signExtended, address}
 use Rattle.instructions.specs.Arithmetic.{roundedProduct, reciprocal, immediate, shiftAmount, shiftedLeft, shiftedRight, shiftedSigned}
 use Rattle.instructions.specs.Arithmetic.{dot, value, result}
@@ -34,7 +35,8 @@ unfolding workedDrawings workedRuns mod32 upto howMany pixels sound soundAreas c
     roundedProduct reciprocal immediate shiftAmount shiftedLeft shiftedRight shiftedSigned dot value result goes nextPlace loadWord
     storeWord
     wordRead wordsRead wordWritten wordsWritten each refusesPlace maskBit treeSet leafValue marked treeIn deepened treeDepth replaced
-    treeColour treeVal leafPut treePut outsideData moveOutsideData moveOutsideRam noScreen noTree wordHalt haltNumber withRegisters
+    treeColour treeVal leafPut treePut outsideData moveOutsideData moveOutsideRam noScreen noTree isRetired noInstruction wordHalt
+    haltNumber withRegisters
     withPlace withFlags withHalt withScreen withTree afterResult afterST afterCALL afterREAD afterWRITE afterSCRSET afterCLS
     afterTREESET grown afterTREEIN afterTREEVAL afterTREEPUT effect performed step run isCounted steps freshState
 worked-hold = (refl, refl)

@@ -5,6 +5,7 @@ use lib.ListN.{replicate}
 use lib.IntN.{ℤ, pos, negℤ}
 use Rattle.ints.specs.Modulo.{mod32}
 use Rattle.rules.specs.Folds.{bit}
+use Rattle.instructions.specs.Opcodes.{current}
 use Rattle.instructions.specs.declared.State.{State}
 use Rattle.instructions.specs.Words.{register, signed}
 use Rattle.instructions.specs.Step.{withRegisters, withFlags, step}
@@ -22,7 +23,7 @@ abbrev pub words : List ℕ
 words = 1 ∷ 1 ∷ 1 ∷ 1 ∷ 32768 ∷ 32768 ∷ 32768 ∷ 32768 ∷ replicate 1016 0
 
 abbrev pub one : ℕ → ℤ → ℤ → State
-one w a b = step (w ∷ []) (record { state = holding a b; memory = words; ram = [] }) .state
+one w a b = step current (w ∷ []) (record { state = holding a b; memory = words; ram = [] }) .state
 
 -- op R1, R2, R3
 abbrev pub three : ℕ → ℕ

@@ -5,7 +5,7 @@ use mathlib.Core.List.{List, [], _∷_}
 use lib.ListN.{getD, replicate}
 use Rattle.rules.specs.Folds.{bit}
 use Rattle.ram.specs.Ram.{loadHalf}
-use Rattle.instructions.specs.Opcodes.{LD, ST, LI, ADD, SUB, MUL, MULF, RECP, XOR, NOT, LSL, LSR, ASRI, CALL, JEQ, JNE, JLTL}
+use Rattle.instructions.specs.Opcodes.{current, LD, ST, LI, ADD, SUB, MUL, MULF, RECP, XOR, NOT, LSL, LSR, ASRI, CALL, JEQ, JNE, JLTL}
 use Rattle.instructions.specs.Opcodes.{JLE, JGT, DOT, READ, WRITE, SCRSET, CLS, TREESET, TREEIN, TREEVAL, TREEPUT}
 use Rattle.instructions.specs.Words.{register}
 use Rattle.instructions.specs.Tree.{each, markI, markO}
@@ -29,7 +29,7 @@ by op r1 r2 imm = op * 67108864 + r1 * 2097152 + r2 * 65536 + imm
 -- R1 and the flags, negative and zero, after n steps; of op R1, R2, R3 with these in R2 and R3
 abbrev pub results : ℕ → List ℕ → Machine → List ℕ
 results n program m =
-    let s = run program n m .state in
+    let s = run current program n m .state in
     register (s .regs) 1 ∷ bit (s .negative) ∷ bit (s .zero) ∷ []
 
 abbrev pub of : ℕ → ℕ → ℕ → List ℕ
@@ -38,14 +38,14 @@ of op a b = results 1 (three op ∷ []) (given 0 a b 0 0)
 -- place and R31 after the word w, at place 1; SUB with these in R2 and R3 is at place 0 and sets the flags
 abbrev pub goesTo : ℕ → ℕ → ℕ → List ℕ
 goesTo w a b =
-    let s = run (three SUB ∷ w ∷ []) 2 (given 0 a b 0 0) .state in
+    let s = run current (three SUB ∷ w ∷ []) 2 (given 0 a b 0 0) .state in
     s .place ∷ register (s .regs) 31 ∷ []
 
 -- steps carried out of ten allowed, halt number and place
 abbrev pub ends : List ℕ → Machine → List ℕ
 ends program m =
-    let s = run program 10 m .state in
-    steps program 10 m ∷ s .halt ∷ s .place ∷ []
+    let s = run current program 10 m .state in
+    steps current program 10 m ∷ s .halt ∷ s .place ∷ []
 
 -- words of the data memory, and half-words of the RAM, at these places
 abbrev pub wordsAt : ℕ → ℕ → ℕ → Machine → List ℕ
@@ -63,7 +63,7 @@ marks m =
 -- a screen of 16 by 1 with colours from 0 and depths from 32 on, cleared to colour 0 and depth 9, and its tree with leaves 0 to 3
 abbrev pub planted : List ℕ → ℕ → ℕ → Machine
 planted more a b =
-    run (by SCRSET 0 1 513 ∷ by CLS 0 2 0 ∷ by TREESET 0 0 (3 * 2048) ∷ more) 10 (given 32 9 0xF000 a b)
+    run current (by SCRSET 0 1 513 ∷ by CLS 0 2 0 ∷ by TREESET 0 0 (3 * 2048) ∷ more) 10 (given 32 9 0xF000 a b)
 
 unfoldable pub workedRuns : List Case
 workedRuns =
@@ -97,11 +97,11 @@ workedRuns =
     -- CALL goes to R2 plus imm, 7 - 1, and puts the place after it, 2, in R31
     ∷ case (6 ∷ 2 ∷ []) (goesTo (by CALL 0 2 0xFFFF) 7 0)
     -- READ to 1,008: the last 16 words, the first of them bytes 0, 1, 2, 3. WRITE from 3 on: a 1, four 32768s, zeros
-    ∷ case (0 ∷ 0x00010203 ∷ 0x3C3D3E3F ∷ []) (wordsAt 1007 1008 1023 (run (by READ 1 0 0 ∷ []) 1 (given 1008 0 0 0 0)))
-    ∷ case (0 ∷ 1 ∷ 32768 ∷ 0 ∷ []) (halvesAt 0 2 18 62 (run (by WRITE 1 0 0 ∷ []) 1 (given 3 0 0 0 0)))
+    ∷ case (0 ∷ 0x00010203 ∷ 0x3C3D3E3F ∷ []) (wordsAt 1007 1008 1023 (run current (by READ 1 0 0 ∷ []) 1 (given 1008 0 0 0 0)))
+    ∷ case (0 ∷ 1 ∷ 32768 ∷ 0 ∷ []) (halvesAt 0 2 18 62 (run current (by WRITE 1 0 0 ∷ []) 1 (given 3 0 0 0 0)))
     -- SCRSET and CLS: 16 by 1, colours from 32 and depths from 0 on; the colour is the low half of R3, the depth that of R1
     ∷ case (32 ∷ 32 ∷ 7 ∷ 7 ∷ [])
-    (halvesAt 0 30 32 62 (run (by SCRSET 1 0 513 ∷ by CLS 3 1 0 ∷ []) 2 (given 32 0 0x10007 0 0)))
+    (halvesAt 0 30 32 62 (run current (by SCRSET 1 0 513 ∷ by CLS 3 1 0 ∷ []) 2 (given 32 0 0x10007 0 0)))
     -- TREESET: the mask's leaves, 0 to 3, have I, the others O
     ∷ case (0xF000 ∷ 0x0FFF ∷ 0 ∷ []) (marks (planted [] 0 0))
     -- TREEIN with -2, -1, 0, 1, ..: leaves 0 and 1 get O, 3 loses I; R4 is then -2 + 16

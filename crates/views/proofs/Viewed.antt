@@ -12,7 +12,7 @@ use Rattle.rules.specs.Sizes.{ramLimit}
 use Rattle.rules.specs.Numbers.{screenNumber}
 use Rattle.rules.specs.Calls.{cleared}
 use Rattle.instructions.specs.declared.Tree.{Tree}
-use Rattle.instructions.specs.Opcodes.{SCRSET, CLS, TREESET, TREEIN, TREEVAL, TREEPUT}
+use Rattle.instructions.specs.Opcodes.{current, SCRSET, CLS, TREESET, TREEIN, TREEVAL, TREEPUT}
 use Rattle.instructions.specs.Words.{opcode, r1, imm, inR1, inR2, inR3, withRegister}
 use Rattle.instructions.specs.Arithmetic.{lowHalf}
 use Rattle.instructions.specs.Jumps.{isJump}
@@ -53,7 +53,7 @@ module _ (regs : List ℕ) (cpu : Cpu) (view : View) (memory ram : List ℕ) (w 
   before = machine regs cpu view memory ram
 
   abbrev halt : ℕ
-  halt = wordHalt (length ram) (joined regs cpu view) w
+  halt = wordHalt current (length ram) (joined regs cpu view) w
 
   abbrev after : List ℕ → Turn → List ℕ → Machine
   after regs′ turn ram′ = machine regs′ (turn .cpu) (turn .view) memory ram′

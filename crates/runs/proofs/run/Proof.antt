@@ -5,6 +5,7 @@ use mathlib.Core.Path.{_≡_, sym, _∙_, ap}
 use native.Mathlib.Omega.{arith}
 use denote.Ref.{now}
 use lib.ListN.{length}
+use Rattle.instructions.specs.Opcodes.{current}
 use Rattle.instructions.specs.Step.{Machine, step}
 use Rattle.pieces.specs.declared.state.Cpu.{Cpu}
 use Rattle.pieces.specs.Pieces.{machine}
@@ -51,7 +52,7 @@ plain-below c =
 plain-stepped : (c : tie.After-plain-step Inv-loop μ-loop)
     → let p = c .plain-step in
     machine (p .last .1 .0) (p .result) (plain-turn c .loop .view) (p .last .1 .1 .0) (p .last .1 .1 .1 .0)
-    ≡ step (now (start-of (plain-turn c) .args .program)) (here (plain-turn c))
+    ≡ step current (now (start-of (plain-turn c) .args .program)) (here (plain-turn c))
 plain-stepped c =
     let kind = c .before .before .before .before in
     let inside = kind .before .before .before in
@@ -74,7 +75,7 @@ view-below c =
 view-stepped : (c : tie.After-view-step Inv-loop μ-loop)
     → let p = c .view-step in
     machine (p .last .1 .0) (p .result .cpu) (p .result .view) (view-turn c .loop .memory) (p .last .1 .1 .1 .1 .0)
-    ≡ step (now (start-of (view-turn c) .args .program)) (here (view-turn c))
+    ≡ step current (now (start-of (view-turn c) .args .program)) (here (view-turn c))
 view-stepped c =
     let kind = c .before .before .before in
     let inside = kind .before .before .before in

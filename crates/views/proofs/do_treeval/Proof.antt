@@ -8,6 +8,7 @@ use lib.ListN.{length}
 use lib.Dec.{ltb}
 use borrow.Author.Tests.{not-false}
 use Rattle.rules.specs.Folds.{choose}
+use Rattle.instructions.specs.Opcodes.{current}
 use Rattle.instructions.specs.Words.{imm}
 use Rattle.instructions.specs.Tree.{treeDepth, treeColour}
 use Rattle.instructions.specs.Halts.{wordHalt}
@@ -21,7 +22,7 @@ use Rattle.views.proofs.do_treeval.Tie as tie
 
 halt-is : (c : tie.After-imm)
     → let a = c .before .before .before .before .args in
-    wordHalt (length (now (a .ram))) (joined (now (a .regs)) (a .cpu) (a .view)) (a .w)
+    wordHalt current (length (now (a .ram))) (joined (now (a .regs)) (a .cpu) (a .view)) (a .w)
     ≡ choose (not (a .view .planted) || ltb 3 (c .imm .result)) 14 0
 halt-is c =
     let start = c .before .before .before .before in
