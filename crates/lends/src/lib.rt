@@ -1,10 +1,10 @@
-// A run, and a single step, over a state as C has it.
+// A run over a state as C has it, and what a run and a single step answer.
 use border::LentState;
 use border::lent_state;
 use border::state_of;
 use machine::calls::machine_number;
 use machine::calls::run_accepted;
-ghost use Rattle.lends.specs.Lends.{RunsLent, StepsLent, lent, ran, stepped};
+ghost use Rattle.lends.specs.Lends.{RunsLent, lent, ran};
 
 // What a run answers: its number, the steps carried out, and the state.
 #[repr(C)]
@@ -49,22 +49,4 @@ pub struct LentStepped {
     pub number: u32,
     pub carried: u32,
     pub state: LentState,
-}
-
-// A run of one step, whose count is 0 or 1.
-pub fn step_lent(
-    program: &[u32],
-    memory: &mut [u32],
-    ram: &mut [u8],
-    state: LentState,
-) -> LentStepped
-    ensures { λ r. ⌜ StepsLent (now (program .entry)) (lent state (now (memory .entry)) (now (ram .entry))) (stepped r (now (memory .exit)) (now (ram .exit))) ⌝ }
-{
-    let end = run_lent(program, memory, ram, state, 1);
-    let last = end.state;
-    LentStepped {
-        number: end.number,
-        carried: end.steps as u32,
-        state: last,
-    }
 }

@@ -4,7 +4,6 @@ use border::lent_state;
 use lends::LentRan;
 use lends::LentStepped;
 use lends::run_lent;
-use lends::step_lent;
 use reader::RowPart;
 use rules::Drawn;
 use rules::Screen;
@@ -62,6 +61,7 @@ pub extern "C" fn merikohin_run(
     run_lent(program, memory, ram, state, budget)
 }
 
+// A run of one step, whose count is 0 or 1. It calls the exported run, so that the library has one run, with all that it calls in place.
 #[no_mangle]
 pub extern "C" fn merikohin_step(
     program: &[u32],
@@ -71,5 +71,11 @@ pub extern "C" fn merikohin_step(
 ) -> LentStepped
     ensures { λ r. ⌜ StepsLent (now (program .entry)) (lent state (now (memory .entry)) (now (ram .entry))) (stepped r (now (memory .exit)) (now (ram .exit))) ⌝ }
 {
-    step_lent(program, memory, ram, state)
+    let end = merikohin_run(program, memory, ram, state, 1);
+    let last = end.state;
+    LentStepped {
+        number: end.number,
+        carried: end.steps as u32,
+        state: last,
+    }
 }

@@ -1,10 +1,17 @@
--- `merikohin_step` promises what `step_lent` does. Said here, a wrong program is refused at once; `search` would look on.
+-- A run of one step is the step, and its count, 0 or 1, fits 32 bits.
+use native.Mathlib.Omega.{arith}
 use borrow.Author.Needs.{needs}
+use Rattle.lends.proofs.Stepping.{run-is-step, one-at-most}
 use Rattle.merikohin.proofs.merikohin_step.Statement.{statement}
 use Rattle.merikohin.proofs.merikohin_step.Tie as tie
 
-step-lent-requires : tie.Need-step-lent-requires
-step-lent-requires c κs = search needs
+merikohin-run-requires : tie.Need-merikohin-run-requires
+merikohin-run-requires c κs = search needs
+
+cast-t11 : tie.Need-cast-t11
+cast-t11 c =
+    let kept = c .before .before .before .before in
+    record { fits = omega (arith, one-at-most (kept .before .before .merikohin-run .ensures)) }
 
 same-length : tie.Need-same-length
 same-length c = search needs
@@ -13,7 +20,9 @@ same-length-2 : tie.Need-same-length-2
 same-length-2 c = search needs
 
 returns : tie.Need-returns
-returns c = c .before .before .before .before .step-lent .ensures
+returns c =
+    let kept = c .before .before .before .before in
+    run-is-step (kept .before .before .merikohin-run .ensures)
 
 pub merikohin-step-spec : {M : Type 1} → statement M
-merikohin-step-spec = tie.close (tie.spec step-lent-requires same-length same-length-2 returns)
+merikohin-step-spec = tie.close (tie.spec merikohin-run-requires cast-t11 same-length same-length-2 returns)
