@@ -90,7 +90,7 @@ enum merikohin_halt {
 };
 
 /* The machine's instructions: the opcode is bits 31..26 of a word, r1 25..21,
- * r2 20..16, r3 15..11, imm 15..0. */
+ * r2 20..16, r3 15..11, imm 15..0. tools/opcodes writes the list. */
 enum merikohin_opcode {
     MERIKOHIN_LD = 0,
     MERIKOHIN_ST = 1,

@@ -1,4 +1,4 @@
-//! Machine words: the one table of opcodes, words put together, words told.
+//! Machine words: the opcodes, words put together, words told.
 
 use std::fmt;
 
@@ -46,8 +46,8 @@ const fn row(number: u32, name: &'static str, form: Form) -> Opcode {
     Opcode { number, name, form }
 }
 
-/// The machine's instructions; each stands at the place of its number.
-pub const OPCODES: [Opcode; 41] = [
+/// The machine's instructions, by number; `tools/opcodes` writes the list.
+pub const OPCODES: &[Opcode] = &[
     row(0, "LD", Form::Ra),
     row(1, "ST", Form::Ar),
     row(2, "LI", Form::Ra),
@@ -93,7 +93,12 @@ pub const OPCODES: [Opcode; 41] = [
 
 /// The instruction of this name, in capitals.
 pub fn named(name: &str) -> Option<Opcode> {
-    OPCODES.into_iter().find(|opcode| opcode.name == name)
+    OPCODES.iter().copied().find(|opcode| opcode.name == name)
+}
+
+/// The instruction of this number.
+pub fn numbered(number: u32) -> Option<Opcode> {
+    OPCODES.iter().copied().find(|opcode| opcode.number == number)
 }
 
 /// A word of three registers.
@@ -113,7 +118,7 @@ pub fn to(opcode: u32, place: usize) -> u32 {
 
 /// A step that changes nothing but the place: a jump to the next one.
 pub fn idle(place: usize) -> u32 {
-    to(18, place + 1)
+    to(named("JMP").expect("JMP is in the table").number, place + 1)
 }
 
 /// The four fields and imm of a word.
@@ -132,7 +137,7 @@ impl fmt::Display for Told {
     fn fmt(&self, f: &mut fmt::Formatter<'_>) -> fmt::Result {
         let (number, r1, r2, r3, imm) = fields(self.0);
         let signed = imm as u16 as i16;
-        let opcode = match OPCODES.get(number as usize) {
+        let opcode = match numbered(number) {
             Some(opcode) if self.0 & 0x03ff_ffff & !opcode.form.used() == 0 => opcode,
             _ => return write!(f, ".word 0x{:08x}", self.0),
         };
@@ -187,7 +192,7 @@ impl Program {
 
     /// A jump or call to a mark.
     pub fn jump(&mut self, opcode: u32, mark: usize) {
-        debug_assert!(OPCODES[opcode as usize].form == Form::A);
+        debug_assert!(numbered(opcode).map_or(false, |opcode| opcode.form == Form::A));
         self.open.push((self.here(), mark));
         self.add(rri(opcode, 0, 0, 0));
     }
@@ -206,54 +211,13 @@ impl Program {
 mod tests {
     use super::*;
 
-    fn read(file: &str) -> String {
-        std::fs::read_to_string(format!("../../{file}")).unwrap()
-    }
-
     #[test]
-    fn each_at_its_number() {
-        for (place, opcode) in OPCODES.iter().enumerate() {
-            assert_eq!(opcode.number as usize, place);
+    fn found_by_name_and_by_number() {
+        for opcode in OPCODES {
             assert_eq!(named(opcode.name), Some(*opcode));
+            assert_eq!(numbered(opcode.number), Some(*opcode));
         }
-    }
-
-    /// include/merikohin.h has exactly these names, with these numbers.
-    #[test]
-    fn the_header_has_this_table() {
-        let header = read("include/merikohin.h");
-        let list = header.split("enum merikohin_opcode {").nth(1).and_then(|rest| rest.split('}').next()).unwrap();
-        let rows: Vec<(String, u32)> = list
-            .split(',')
-            .map(|row| row.trim().split_once(" = ").unwrap())
-            .map(|(name, number)| (name.strip_prefix("MERIKOHIN_").unwrap().into(), number.parse().unwrap()))
-            .collect();
-        let wanted: Vec<(String, u32)> = OPCODES.iter().map(|opcode| (opcode.name.into(), opcode.number)).collect();
-        assert_eq!(rows, wanted);
-    }
-
-    /// docs/INSTRUCTIONS.md has a row for each, with its number.
-    #[test]
-    fn the_instructions_page_has_this_table() {
-        let page = read("docs/INSTRUCTIONS.md");
-        let mut rows = Vec::new();
-        for line in page.lines().filter(|line| line.starts_with("| ")) {
-            let mut cells = line.split('|').skip(1);
-            let (numbers, names) = (cells.next().unwrap(), cells.next().unwrap());
-            let numbers = numbers.split(',').map(|n| n.trim().parse::<u32>());
-            rows.extend(names.split(',').zip(numbers).filter_map(|(name, n)| Some((name.trim().to_string(), n.ok()?))));
-        }
-        let wanted: Vec<(String, u32)> = OPCODES.iter().map(|opcode| (opcode.name.into(), opcode.number)).collect();
-        assert_eq!(rows, wanted);
-    }
-
-    /// The benchmark's list has them in this order.
-    #[test]
-    fn the_benchmark_has_this_table() {
-        let list = read("bench/opcodes.h");
-        let list = list.split("enum opcode {").nth(1).and_then(|rest| rest.split('}').next()).unwrap();
-        let names: Vec<&str> = list.split(',').map(str::trim).collect();
-        assert_eq!(names, OPCODES.map(|opcode| opcode.name));
+        assert_eq!((named("HALT"), numbered(63)), (None, None));
     }
 
     #[test]

@@ -4,7 +4,7 @@ use crate::asm::{assemble, Assembled};
 use crate::files::{self, Output};
 use crate::problem::{self, Place, Problem};
 use crate::terminal::Progress;
-use kit::words::{fields, Told, OPCODES};
+use kit::words::{fields, numbered, Told};
 use merikohin::{Halt, State};
 
 pub struct Asked {
@@ -142,7 +142,7 @@ fn traced(machine: &mut Machine, steps: u64) -> Result<(), Problem> {
 }
 
 fn name_of(word: u32) -> &'static str {
-    OPCODES.get(fields(word).0 as usize).map_or("", |opcode| opcode.name)
+    numbered(fields(word).0).map_or("", |opcode| opcode.name)
 }
 
 fn state_changes(before: &State, after: &State) -> Vec<String> {
