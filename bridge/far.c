@@ -51,6 +51,9 @@ static void answer(struct request *r)
     case ROW:
         r->part = merikohin_row(ram, r->ram_len, r->screen, r->row);
         break;
+    case DEPTH_ROW:
+        r->part = merikohin_depth_row(ram, r->ram_len, r->screen, r->row);
+        break;
     case FRESH:
         r->state = merikohin_fresh();
         break;

@@ -98,7 +98,7 @@ merikohin_drawn merikohin_draw(uint8_t *ram, size_t ram_len, merikohin_screen s,
     return request->drawn;
 }
 
-/* The RAM of the two row calls is only read; that it stays is checked here. */
+/* The RAM of the three row calls is only read; that it stays is checked here. */
 static void row_call(uint32_t call, const uint8_t *ram, size_t ram_len, merikohin_screen s, uint32_t row)
 {
     lend(ram, ram_len);
@@ -116,6 +116,12 @@ uint32_t merikohin_row_check(const uint8_t *ram, size_t ram_len, merikohin_scree
 merikohin_row_part merikohin_row(const uint8_t *ram, size_t ram_len, merikohin_screen s, uint32_t row)
 {
     row_call(ROW, ram, ram_len, s, row);
+    return request->part;
+}
+
+merikohin_row_part merikohin_depth_row(const uint8_t *ram, size_t ram_len, merikohin_screen s, uint32_t row)
+{
+    row_call(DEPTH_ROW, ram, ram_len, s, row);
     return request->part;
 }
 

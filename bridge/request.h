@@ -6,7 +6,7 @@
 
 #include "merikohin.h"
 
-enum { CLEAR, DRAW, ROW_CHECK, ROW, FRESH, RUN };
+enum { CLEAR, DRAW, ROW_CHECK, ROW, DEPTH_ROW, FRESH, RUN };
 
 struct request {
     uint64_t program_len, memory_len, ram_len, budget;

@@ -177,9 +177,9 @@ typedef struct merikohin_drawn {
     uint32_t number, covered, written;
 } merikohin_drawn;
 
-/* The answer to a row: its number, and where the row's own bytes lie: they
- * are ram[start .. start + length), a part of the lent memory and no copy. Four
- * bytes of padding follow the number. */
+/* The answer to a row or a depth row: its number, and where the row's own bytes
+ * lie: they are ram[start .. start + length), a part of the lent memory and no
+ * copy. Four bytes of padding follow the number. */
 typedef struct merikohin_row_part {
     uint32_t number;
     uint64_t start, length;
@@ -237,8 +237,8 @@ merikohin_drawn merikohin_draw(uint8_t *ram, size_t ram_len, merikohin_screen s,
 
 /* Tells whether a row can be read: answers 0 if merikohin_row would hand the
  * row back, or 3 (RAM too long), 5 (screen not sound) or 8 (row not below the
- * height), always the number that merikohin_row answers for the same inputs.
- * RAM is not changed. */
+ * height), always the number that merikohin_row and merikohin_depth_row answer
+ * for the same inputs. RAM is not changed. */
 MERIKOHIN_MUST_USE
 uint32_t merikohin_row_check(const uint8_t *ram, size_t ram_len, merikohin_screen s, uint32_t row);
 
@@ -248,6 +248,13 @@ uint32_t merikohin_row_check(const uint8_t *ram, size_t ram_len, merikohin_scree
  * changed and nothing is copied. */
 MERIKOHIN_MUST_USE
 merikohin_row_part merikohin_row(const uint8_t *ram, size_t ram_len, merikohin_screen s, uint32_t row);
+
+/* Reads a row's depths: answers 0 and the part of RAM that holds the row's own
+ * 2 x width depth bytes, or 3 (RAM too long), 5 (screen not sound) or 8 (row
+ * not below the height) with an empty part, start 0 and length 0. RAM is not
+ * changed and nothing is copied. */
+MERIKOHIN_MUST_USE
+merikohin_row_part merikohin_depth_row(const uint8_t *ram, size_t ram_len, merikohin_screen s, uint32_t row);
 
 /* Gives a fresh state: place 0, registers 0, flags clear, no screen, no tree,
  * halt number 0, and 0 in every field without meaning. */

@@ -61,13 +61,14 @@ static void nothing_lent(void)
     HOLDS(merikohin_draw(NULL, 0, s, t).number == MERIKOHIN_SCREEN_NOT_SOUND);
     HOLDS(merikohin_row_check(NULL, 0, s, 0) == MERIKOHIN_SCREEN_NOT_SOUND);
     HOLDS(merikohin_row(NULL, 0, s, 0).number == MERIKOHIN_SCREEN_NOT_SOUND);
+    HOLDS(merikohin_depth_row(NULL, 0, s, 0).number == MERIKOHIN_SCREEN_NOT_SOUND);
     HOLDS(merikohin_run(NULL, 0, NULL, 0, NULL, 0, merikohin_fresh(), 9).number == MERIKOHIN_MEMORY_NOT_1024);
     static uint32_t memory[MERIKOHIN_MEMORY_WORDS];
     const merikohin_ran ran = merikohin_run(NULL, 0, memory, MERIKOHIN_MEMORY_WORDS, NULL, 0, merikohin_fresh(), 9);
     HOLDS(ran.number == MERIKOHIN_DONE && ran.steps == 0 && ran.state.halt == MERIKOHIN_HALT_PLACE);
 }
 
-/* At every address of RAM a clear and a row. */
+/* At every address of RAM a clear, a row and a depth row. */
 static void any_address(void)
 {
     static uint8_t ram[256 + 16];
@@ -77,8 +78,11 @@ static void any_address(void)
         HOLDS(ram[lead] == 0x12 && ram[lead + 127] == 0x34 && ram[lead + 128] == 0xff);
         const merikohin_row_part row = merikohin_row(ram + lead, 256, s, 3);
         HOLDS(row.number == MERIKOHIN_DONE && row.start == 96 && row.length == 32);
+        const merikohin_row_part depths = merikohin_depth_row(ram + lead, 256, s, 3);
+        HOLDS(depths.number == MERIKOHIN_DONE && depths.start == 224 && depths.length == 32);
     }
     HOLDS(merikohin_row_check(ram, 256, s, 4) == MERIKOHIN_ROW_OUT_OF_RANGE);
+    HOLDS(merikohin_depth_row(ram, 256, s, 4).number == MERIKOHIN_ROW_OUT_OF_RANGE);
 }
 
 /* A fresh state has 0 in every field; a run leaves what was there in those that mean nothing. */

@@ -9,6 +9,7 @@ use rules::Drawn;
 use rules::Screen;
 use rules::Triangle;
 ghost use lib.ListN.{length};
+ghost use Rattle.rules.specs.Sizes.{colourAt, depthAt};
 ghost use Rattle.rules.specs.Calls.{Clears, Draws};
 ghost use Rattle.reader.specs.Rows.{Checks, Locates};
 ghost use Rattle.lends.specs.Lends.{Lends, RunsLent, StepsLent, lent, ran, stepped};
@@ -36,9 +37,16 @@ pub extern "C" fn merikohin_row_check(ram: &[u8], s: Screen, row: u32) -> u32
 
 #[no_mangle]
 pub extern "C" fn merikohin_row(ram: &[u8], s: Screen, row: u32) -> RowPart
-    ensures { λ r. ⌜ Locates (length (now (ram .entry))) s row r ⌝ }
+    ensures { λ r. ⌜ Locates colourAt (length (now (ram .entry))) s row r ⌝ }
 {
     reader::row_part(ram, s, row)
+}
+
+#[no_mangle]
+pub extern "C" fn merikohin_depth_row(ram: &[u8], s: Screen, row: u32) -> RowPart
+    ensures { λ r. ⌜ Locates depthAt (length (now (ram .entry))) s row r ⌝ }
+{
+    reader::depth_row_part(ram, s, row)
 }
 
 #[no_mangle]

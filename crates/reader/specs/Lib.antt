@@ -1,2 +1,3 @@
 -- What the row reader promises, in parts with names.
+pub mod Parts
 pub mod Rows

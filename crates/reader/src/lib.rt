@@ -1,9 +1,12 @@
-// The row reader: the number of a request, where a row's own bytes stand, and the bytes themselves.
-ghost use Prim.Native.Nat.{_+_};
+// The row reader: the number of a request, where a row's own bytes stand, and the bytes themselves, of colours and of depths.
+ghost use Prim.Native.Nat.{_+_, _≤_};
 ghost use lib.ListN.{length};
+ghost use Rattle.rules.specs.Sizes.{colourAt, depthAt};
+ghost use Rattle.reader.specs.Parts.{IsPart, beginsAt};
 ghost use Rattle.reader.specs.Rows.{Checks, HandsBack, Locates};
 use rules::Screen;
 use screen::sizes::colour_at;
+use screen::sizes::depth_at;
 use screen::sizes::height;
 use screen::sizes::screen_number;
 use screen::sizes::width;
@@ -27,9 +30,9 @@ pub fn row_check(ram: &[u8], s: Screen, row: u32) -> u32
     if row < height(s.size) { 0 } else { 8 }
 }
 
-// An empty part at 0 where the row is refused.
-pub fn row_part(ram: &[u8], s: Screen, row: u32) -> RowPart
-    ensures { λ r. ⌜ Locates (length (now (ram .entry))) s row r ⌝ }
+// The part of a row that begins at `first`; an empty part at 0 where the row is refused.
+fn part_from(ram: &[u8], s: Screen, row: u32, first: usize) -> RowPart
+    ensures { λ r. ⌜ Locates (beginsAt first) (length (now (ram .entry))) s row r ⌝ }
 {
     let number = row_check(ram, s, row);
     if number != 0 {
@@ -41,17 +44,43 @@ pub fn row_part(ram: &[u8], s: Screen, row: u32) -> RowPart
     }
     RowPart {
         number,
-        start: colour_at(s, 0, row) as u64,
+        start: first as u64,
         length: 2 * width(s.size) as u64,
     }
 }
 
-// The row's own bytes, a part of `ram` and not a copy.
-pub fn row<'a>(ram: &'a [u8], s: Screen, row: u32) -> &'a [u8]
-    ensures { λ r. ⌜ HandsBack (ram .entry) s row r ⌝ }
+// The bytes that a part locates, and not a copy of them.
+fn bytes_of<'a>(ram: &'a [u8], part: RowPart) -> &'a [u8]
+    requires { ⌜ part .start + part .length ≤ length (now ram) ⌝ }
+    ensures { λ r. ⌜ IsPart (ram .entry) part r ⌝ }
 {
-    let part = row_part(ram, s, row);
     let start = part.start as usize;
     let end = start + part.length as usize;
     &ram[start..end]
+}
+
+pub fn row_part(ram: &[u8], s: Screen, row: u32) -> RowPart
+    ensures { λ r. ⌜ Locates colourAt (length (now (ram .entry))) s row r ⌝ }
+{
+    part_from(ram, s, row, colour_at(s, 0, row))
+}
+
+pub fn depth_row_part(ram: &[u8], s: Screen, row: u32) -> RowPart
+    ensures { λ r. ⌜ Locates depthAt (length (now (ram .entry))) s row r ⌝ }
+{
+    part_from(ram, s, row, depth_at(s, 0, row))
+}
+
+// The row's own colour bytes, a part of `ram` and not a copy.
+pub fn row<'a>(ram: &'a [u8], s: Screen, row: u32) -> &'a [u8]
+    ensures { λ r. ⌜ HandsBack colourAt (ram .entry) s row r ⌝ }
+{
+    bytes_of(ram, row_part(ram, s, row))
+}
+
+// The row's own depth bytes, likewise.
+pub fn depth_row<'a>(ram: &'a [u8], s: Screen, row: u32) -> &'a [u8]
+    ensures { λ r. ⌜ HandsBack depthAt (ram .entry) s row r ⌝ }
+{
+    bytes_of(ram, depth_row_part(ram, s, row))
 }

@@ -12,7 +12,7 @@ use lib.Arith.{digits-lt, digits-div, digits-mod}
 use lib.Dec.{leb}
 use borrow.Author.Tests.{leb-true, eqb-true}
 use Rattle.rules.specs.declared.Screen.{Screen}
-use Rattle.rules.specs.Sizes.{groups, width, height, area, soundAreas, sound, colourAt, depthAt}
+use Rattle.rules.specs.Sizes.{groups, width, height, area, soundAreas, sound, Area, colourAt, depthAt}
 use Rattle.ram.proofs.Halves.{Apart}
 
 -- (x, y) is a pixel of the screen
@@ -219,12 +219,27 @@ module _ (s : Screen) (x y : ℕ) where
   unfolding depthAt
   depth-in-area = refl
 
--- so the colours of a row do, and lie in the RAM: "2 × width" bytes
-pub colour-in-row : (s : Screen) (x y : ℕ) → colourAt s x y ≡ colourAt s 0 y + x * 2
-colour-in-row s x y = omega (arith, colour-in-area s x y, colour-in-area s 0 y)
+-- so those of a row do, and each lies in the RAM: what is known of an area, whichever of the two it is
+pub record RowByRow (at : Area) : Type 0 where
+  pub in-row : (s : Screen) (x y : ℕ) → at s x y ≡ at s 0 y + x * 2
+  pub within : (n : ℕ) (s : Screen) (x y : ℕ) → Sound n s → On s x y → at s x y + 1 < n
 
-pub row-fits : {n : ℕ} {s : Screen} {y : ℕ} → Sound n s → y < height (s .size) → colourAt s 0 y + 2 * width (s .size) ≤ n
-row-fits {n} {s} {y} k h =
+pub colours-by-row : RowByRow colourAt
+colours-by-row = record {
+  in-row = λ s x y. omega (arith, colour-in-area s x y, colour-in-area s 0 y);
+  within = λ n s x y k p. colour-fits k p;
+}
+
+pub depths-by-row : RowByRow depthAt
+depths-by-row = record {
+  in-row = λ s x y. omega (arith, depth-in-area s x y, depth-in-area s 0 y);
+  within = λ n s x y k p. depth-fits k p;
+}
+
+-- a row's bytes lie in the RAM: "2 × width" of them
+pub row-fits : {at : Area} → RowByRow at → {n : ℕ} {s : Screen} {y : ℕ} → Sound n s → y < height (s .size)
+    → at s 0 y + 2 * width (s .size) ≤ n
+row-fits {at} a {n} {s} {y} k h =
     let w : ℕ = width (s .size) in
     let e : w - 1 < w = omega (arith, k .groups-low) in
-    omega (arith, colour-fits k {x = w - 1} {y = y} (record { across = e; down = h }), colour-in-row s (w - 1) y)
+    omega (arith, a .within n s (w - 1) y k (record { across = e; down = h }), a .in-row s (w - 1) y)

@@ -9,7 +9,7 @@ use Rattle.rules.specs.declared.Screen.{Screen}
 use Rattle.rules.specs.declared.Triangle.{Triangle}
 use Rattle.rules.specs.declared.Drawn.{Drawn}
 use Rattle.rules.specs.Folds.{upto, choose}
-use Rattle.rules.specs.Sizes.{width, height, colourAt, putPixel}
+use Rattle.rules.specs.Sizes.{width, height, Area, colourAt, depthAt, putPixel}
 use Rattle.rules.specs.Numbers.{screenNumber, rowNumber, triangleNumber}
 use Rattle.rules.specs.Triangles.{coveredPixels, writtenPixels, drawn}
 
@@ -34,12 +34,26 @@ pub record Draws (m : List ℕ) (s : Screen) (t : Triangle) (answer : Drawn) (af
   pub writes : answer .written ≡ accepted (triangleNumber (length m) s t) (writtenPixels t s m) 0
   pub leaves : after ≡ accepted (triangleNumber (length m) s t) (drawn t s m) m
 
--- where a row's own bytes start and how many they are: "the 2 × width colour bytes of one row", or none where refused
-unfoldable pub rowStart : ℕ → Screen → ℕ → ℕ
-rowStart ramLength s row = accepted (rowNumber ramLength s row) (colourAt s 0 row) 0
+-- where a row's own bytes start in an area, and how many they are in either: 2 × width bytes, or none where refused
+unfoldable pub partStart : Area → ℕ → Screen → ℕ → ℕ
+partStart at ramLength s row = accepted (rowNumber ramLength s row) (at s 0 row) 0
 
 unfoldable pub rowLength : ℕ → Screen → ℕ → ℕ
 rowLength ramLength s row = accepted (rowNumber ramLength s row) (2 * width (s .size)) 0
 
-unfoldable pub rowBytes : List ℕ → Screen → ℕ → List ℕ
-rowBytes m s row = take (rowLength (length m) s row) (drop (rowStart (length m) s row) m)
+unfoldable pub partBytes : Area → List ℕ → Screen → ℕ → List ℕ
+partBytes at m s row = take (rowLength (length m) s row) (drop (partStart at (length m) s row) m)
+
+-- the row: "the 2 × width colour bytes of one row"
+abbrev pub rowStart : ℕ → Screen → ℕ → ℕ
+rowStart = partStart colourAt
+
+abbrev pub rowBytes : List ℕ → Screen → ℕ → List ℕ
+rowBytes = partBytes colourAt
+
+-- the depth row: its 2 × width depth bytes
+abbrev pub depthRowStart : ℕ → Screen → ℕ → ℕ
+depthRowStart = partStart depthAt
+
+abbrev pub depthRowBytes : List ℕ → Screen → ℕ → List ℕ
+depthRowBytes = partBytes depthAt

@@ -49,6 +49,10 @@ colourAt s x y = s .colour + (y * width (s .size) + x) * 2
 unfoldable pub depthAt : Screen → ℕ → ℕ → ℕ
 depthAt s x y = s .depth + (y * width (s .size) + x) * 2
 
+-- one of the two areas, by where pixel (x, y) stands in it: `colourAt` or `depthAt`
+abbrev pub Area : Type 0
+Area = Screen → ℕ → ℕ → ℕ
+
 -- a pixel's colour and depth, written
 unfoldable pub putPixel : Screen → ℕ → ℕ → ℕ → ℕ → List ℕ → List ℕ
 putPixel s x y colour depth m = storeHalf (storeHalf m (colourAt s x y) colour) (depthAt s x y) depth

@@ -8,7 +8,7 @@ use Rattle.rules.specs.Sizes.{sound, soundAreas, colourAt, depthAt, putPixel}
 use Rattle.rules.specs.Triangles.{planeAt, topHalf, packed, triangleDepth, triangleColour, sample, edgeValue, keepsZero, inside}
 use Rattle.rules.specs.Triangles.{insideAll, covered, written, pixelDrawn, rowDrawn, drawn}
 use Rattle.rules.specs.Numbers.{verticesInRange, edgeTooLarge, triangleTooLarge, rowNumber, triangleNumber}
-use Rattle.rules.specs.Calls.{cleared, rowStart, rowLength}
+use Rattle.rules.specs.Calls.{cleared, partStart, rowLength}
 use Rattle.instructions.specs.Opcodes.{isRetired, noInstruction}
 use Rattle.instructions.specs.Words.{withRegister, signExtended, address}
 use Rattle.instructions.specs.Arithmetic.{roundedProduct, reciprocal, immediate, shiftAmount, shiftedLeft, shiftedRight, shiftedSigned}
@@ -31,7 +31,7 @@ pub worked-hold :
     × (map (λ c. c .gives) workedRuns ≡ map (λ c. c .says) workedRuns)
 unfolding workedDrawings workedRuns mod32 upto howMany pixels sound soundAreas colourAt depthAt loadHalf storeHalf putPixel planeAt topHalf
     packed triangleDepth triangleColour sample edgeValue keepsZero inside insideAll covered written pixelDrawn rowDrawn drawn
-    verticesInRange edgeTooLarge triangleTooLarge rowNumber triangleNumber cleared rowStart rowLength withRegister signExtended address
+    verticesInRange edgeTooLarge triangleTooLarge rowNumber triangleNumber cleared partStart rowLength withRegister signExtended address
     roundedProduct reciprocal immediate shiftAmount shiftedLeft shiftedRight shiftedSigned dot value result goes nextPlace loadWord
     storeWord
     wordRead wordsRead wordWritten wordsWritten each refusesPlace maskBit treeSet leafValue marked treeIn deepened treeDepth replaced

@@ -12,7 +12,7 @@ use Rattle.ram.specs.Ram.{loadHalf, storeHalf}
 use Rattle.rules.specs.Sizes.{width, height, colourAt, depthAt}
 use Rattle.rules.specs.Triangles.{covered, coveredPixels, writtenPixels, drawn}
 use Rattle.rules.specs.Numbers.{rowNumber, triangleNumber}
-use Rattle.rules.specs.Calls.{accepted, rowStart, rowLength}
+use Rattle.rules.specs.Calls.{accepted, rowStart, depthRowStart, rowLength}
 use Rattle.starred.specs.Drawing.{screen16by4, triangle, vertices, corners}
 use Rattle.starred.specs.Machine.{minus}
 
@@ -69,9 +69,10 @@ blueAt depth = triangle (pos 0) (pos 0) (pos 32) (pos 0) (pos 0) (pos 32) (flat 
 abbrev pub shaded : Triangle
 shaded = triangle (pos 0) (pos 0) (pos 32) (pos 0) (pos 0) (pos 32) (flat 0) (plane 0 2 0) (plane 3 0 1) (flat 33)
 
--- the row's number, and where its bytes start and how many they are
+-- the row's number, where its colours and its depths start, and how many bytes each are
 abbrev pub rowAt : ℕ → List ℕ
-rowAt y = rowNumber 256 screen16by4 y ∷ rowStart 256 screen16by4 y ∷ rowLength 256 screen16by4 y ∷ []
+rowAt y =
+    rowNumber 256 screen16by4 y ∷ rowStart 256 screen16by4 y ∷ depthRowStart 256 screen16by4 y ∷ rowLength 256 screen16by4 y ∷ []
 
 unfoldable pub workedDrawings : List Case
 workedDrawings =
@@ -104,7 +105,7 @@ workedDrawings =
     ∷ case (0 ∷ 64 ∷ 64 ∷ []) (counts (corners 0 0 8191 0 0 8191))
     ∷ case (6 ∷ 0 ∷ 0 ∷ []) (counts (corners 0 0 8191 0 0 8192))
     ∷ case (640 ∷ 480 ∷ []) (width 20960 ∷ height 20960 ∷ [])
-    -- row 3 is the 32 bytes from 96 on; there is no row 4
-    ∷ case (0 ∷ 96 ∷ 32 ∷ []) (rowAt 3)
-    ∷ case (8 ∷ 0 ∷ 0 ∷ []) (rowAt 4)
+    -- row 3 is the 32 bytes from 96 on, and its depths those from 224 on; there is no row 4
+    ∷ case (0 ∷ 96 ∷ 224 ∷ 32 ∷ []) (rowAt 3)
+    ∷ case (8 ∷ 0 ∷ 0 ∷ 0 ∷ []) (rowAt 4)
     ∷ []

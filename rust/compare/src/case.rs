@@ -33,7 +33,33 @@ pub enum Call {
     Clear { colour: u16, depth: u16 },
     Draw(Triangle),
     RowCheck { row: u32 },
-    Row { row: u32 },
+    Row { area: Area, row: u32 },
+}
+
+/// Of which a row is read.
+#[derive(Clone, Copy, Debug, PartialEq, Eq)]
+pub enum Area {
+    Colours,
+    Depths,
+}
+
+impl Area {
+    pub const BOTH: [Area; 2] = [Area::Colours, Area::Depths];
+
+    /// The call that reads a row of it.
+    pub fn call(self) -> &'static str {
+        match self {
+            Area::Colours => "row",
+            Area::Depths => "depth_row",
+        }
+    }
+
+    pub fn start(self, s: Screen) -> u32 {
+        match self {
+            Area::Colours => s.colour_start,
+            Area::Depths => s.depth_start,
+        }
+    }
 }
 
 #[derive(Clone, Copy, Debug, PartialEq, Eq)]
@@ -122,7 +148,7 @@ impl fmt::Display for Case {
             match step.call {
                 Call::Clear { colour, depth } => write!(f, "clear={colour},{depth}")?,
                 Call::RowCheck { row } => write!(f, "check={row}")?,
-                Call::Row { row } => write!(f, "row={row}")?,
+                Call::Row { area, row } => write!(f, "{}={row}", area.call())?,
                 Call::Draw(t) => {
                     let [a, b, c, d, e, g] = t.vertices.numbers();
                     write!(f, "draw={a},{b},{c},{d},{e},{g}")?;
@@ -185,7 +211,8 @@ impl std::str::FromStr for Case {
                         call = Some(Call::Clear { colour: n[0], depth: n[1] });
                     }
                     (1.., "check") => call = Some(Call::RowCheck { row: numbers(value, 1)?[0] }),
-                    (1.., "row") => call = Some(Call::Row { row: numbers(value, 1)?[0] }),
+                    (1.., "row") => call = Some(Call::Row { area: Area::Colours, row: numbers(value, 1)?[0] }),
+                    (1.., "depth_row") => call = Some(Call::Row { area: Area::Depths, row: numbers(value, 1)?[0] }),
                     (1.., "draw") => {
                         let n = numbers::<i32>(value, 6)?;
                         call = Some(Call::Draw(plain([n[0], n[1], n[2], n[3], n[4], n[5]])));
@@ -207,7 +234,7 @@ impl std::str::FromStr for Case {
             if place > 0 {
                 match (screen, call) {
                     (Some(screen), Some(call)) => case.steps.push(Step { screen, call }),
-                    _ => return Err(format!("a call needs a screen and one of draw, clear, check, row: {part}")),
+                    _ => return Err(format!("a screen and one of draw, clear, check, row, depth_row wanted: {part}")),
                 }
             }
         }

@@ -3,7 +3,7 @@
 //! call.
 
 use crate::case::{second_screen, second_triangle, Call, Case, Step};
-use crate::subject::{part_of, RowSeen, Subject};
+use crate::subject::{second_row, RowSeen, Subject};
 
 /// Bytes kept on both sides of the subject's RAM; they must never change.
 const GUARD: usize = 256;
@@ -97,8 +97,8 @@ fn subject_answer(subject: Subject, step: &Step, ram: &mut [u8]) -> Answer {
             Answer { number: drawn.number, covered: drawn.covered, written: drawn.written, ..none }
         }
         Call::RowCheck { row } => Answer { number: subject.row_check(ram, step.screen, row), ..none },
-        Call::Row { row } => {
-            let seen = subject.row(ram, step.screen, row);
+        Call::Row { area, row } => {
+            let seen = subject.row(ram, step.screen, area, row);
             Answer { number: seen.number, row: Some(seen), ..none }
         }
     }
@@ -114,11 +114,9 @@ fn second_answer(step: &Step, ram: &mut [u8]) -> Answer {
             Answer { number: drawn.number, covered: drawn.covered, written: drawn.written, ..none }
         }
         Call::RowCheck { row } => Answer { number: second::row_check(ram, screen, row), ..none },
-        Call::Row { row } => {
-            let (number, part) = second::row(ram, screen, row);
-            let (start, length) = part_of(ram, part);
-            let seen = RowSeen { number, start: start as u64, length: length as u64, part: Some((start, length)) };
-            Answer { number, row: Some(seen), ..none }
+        Call::Row { area, row } => {
+            let seen = second_row(ram, screen, area, row);
+            Answer { number: seen.number, row: Some(seen), ..none }
         }
     }
 }

@@ -1,6 +1,6 @@
 //! The fixed groups: both sides of every edge document 01 names.
 
-use crate::case::{plain, second_triangle, Call, Case, Fill, NO_PLANE};
+use crate::case::{plain, second_triangle, Area, Call, Case, Fill, NO_PLANE};
 use crate::random;
 use crate::run::Run;
 use kit::rng::Rng;
@@ -72,7 +72,8 @@ fn each_call(run: &mut Run, rng: &mut Rng, ram: usize, screen: Screen, number: u
     let height = screen.size_number % 512;
     let row = (rng.next() % u64::from(height.max(1))) as u32;
     let clear = Call::Clear { colour: rng.next() as u16, depth: rng.next() as u16 };
-    for call in [clear, Call::Draw(covers_all(rng)), Call::RowCheck { row }, Call::Row { row }] {
+    let rows = Area::BOTH.map(|area| Call::Row { area, row });
+    for call in [clear, Call::Draw(covers_all(rng)), Call::RowCheck { row }, rows[0], rows[1]] {
         let fill = Fill::Random(rng.next());
         run.case_wants(
             &Case { lead: (rng.next() % 16) as usize, ..Case::one(ram, fill, screen, call) },
@@ -146,7 +147,7 @@ fn demonstration(run: &mut Run, rng: &mut Rng) {
     let clear = Call::Clear { colour: 0, depth: 65535 };
     for pair in [[first, second], [second, first]] {
         let mut calls = vec![clear, Call::Draw(pair[0]), Call::Draw(pair[1])];
-        calls.extend((0..5).map(|row| Call::Row { row }));
+        calls.extend((0..5).map(|row| Call::Row { area: Area::Colours, row }));
         let case = Case::many(ram, Fill::Random(rng.next()), screen, &calls);
         if let Some(answers) = run.case(&case) {
             let mut picture = String::new();
@@ -269,15 +270,17 @@ fn full_size(run: &mut Run, rng: &mut Rng) {
     each_call(run, rng, ram, screen, 0);
     each_call(run, rng, ram - 1, screen, 5);
     for row in [0, 1, 240, 478, 479, 480, 481, u32::MAX] {
-        let case = Case::one(ram, Fill::Random(rng.next()), screen, Call::Row { row });
-        if let Some(answers) = run.case(&case) {
-            let seen = answers[0].row.expect("a row call");
+        let calls = Area::BOTH.map(|area| Call::Row { area, row });
+        let case = Case::many(ram, Fill::Random(rng.next()), screen, &calls);
+        let Some(answers) = run.case(&case) else { continue };
+        for (answer, first) in answers.iter().zip([0, 614_400]) {
+            let seen = answer.row.expect("a row call");
             let holds = if row < 480 {
-                (seen.number, seen.start, seen.length) == (0, u64::from(row) * 1280, 1280)
+                (seen.number, seen.start, seen.length) == (0, first + u64::from(row) * 1280, 1280)
             } else {
                 (seen.number, seen.start, seen.length) == (8, 0, 0)
             };
-            run.holds(holds, || format!("row {row} of a 640 by 480 screen: {seen:?}"));
+            run.holds(holds, || format!("row {row} of a 640 by 480 screen, its area at {first}: {seen:?}"));
         }
     }
     for _ in 0..20 {
@@ -324,13 +327,15 @@ fn rows(run: &mut Run, rng: &mut Rng) {
             let ram = 2 * bytes as usize + 7;
             for row in rows {
                 let number = if row < height { 0 } else { 8 };
-                let calls = [Call::RowCheck { row }, Call::Row { row }];
-                let lead = (rng.next() % 16) as usize;
-                let case = Case { lead, ..Case::many(ram, Fill::Random(rng.next()), screen, &calls) };
-                if let Some(answers) = run.case(&case) {
+                for area in Area::BOTH {
+                    let calls = [Call::RowCheck { row }, Call::Row { area, row }];
+                    let lead = (rng.next() % 16) as usize;
+                    let case = Case { lead, ..Case::many(ram, Fill::Random(rng.next()), screen, &calls) };
+                    let Some(answers) = run.case(&case) else { continue };
                     let seen = answers[1].row.expect("a row call");
                     let length = if number == 0 { row_bytes } else { 0 };
-                    let start = if number == 0 { u64::from(colour) + u64::from(row) * row_bytes } else { 0 };
+                    let first = u64::from(area.start(screen));
+                    let start = if number == 0 { first + u64::from(row) * row_bytes } else { 0 };
                     let part = Some((start as usize, length as usize));
                     let holds = answers[0].number == number
                         && (seen.number, seen.start, seen.length, seen.part) == (number, start, length, part);
@@ -552,7 +557,8 @@ fn several_faults(run: &mut Run, rng: &mut Rng) {
             let height = u64::from(screen.size_number % 512);
             let rows = [0, 7, 8, 9, u32::MAX].into_iter().flat_map(|row| {
                 let number = if u64::from(row) < height { 0 } else { 8 };
-                [(Call::RowCheck { row }, number), (Call::Row { row }, number)]
+                let [colours, depths] = Area::BOTH.map(|area| (Call::Row { area, row }, number));
+                [(Call::RowCheck { row }, number), colours, depths]
             });
             // All on one long case: one RAM serves many refused calls.
             let (calls, numbers): (Vec<Call>, Vec<u32>) = draws.chain(rows).unzip();

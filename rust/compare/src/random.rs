@@ -1,6 +1,6 @@
 //! Random calls, good and bad, and the random parts other groups use.
 
-use crate::case::{plain, Call, Case, Fill, Step};
+use crate::case::{plain, Area, Call, Case, Fill, Step};
 use crate::groups::{area, size};
 use crate::run::Run;
 use kit::rng::Rng;
@@ -138,7 +138,7 @@ fn call(rng: &mut Rng, s: u32) -> Call {
             Call::Clear { colour, depth }
         }
         2 | 3 => Call::RowCheck { row: rng.between(0, height - 1) as u32 },
-        4 | 5 => Call::Row { row: rng.between(0, height - 1) as u32 },
+        4 | 5 => Call::Row { area: rng.pick(&Area::BOTH), row: rng.between(0, height - 1) as u32 },
         _ => Call::Draw(triangle(rng, width, height)),
     }
 }
@@ -178,7 +178,7 @@ fn spoil(rng: &mut Rng, step: &mut Step, ram: usize) {
                         ];
                         *slot.into_iter().nth((rng.next() % 6) as usize).expect("six") = far;
                     }
-                    Call::Row { row } | Call::RowCheck { row } => {
+                    Call::Row { row, .. } | Call::RowCheck { row } => {
                         *row = rng.pick(&[height, height + 1, 511, 512, u32::MAX, 1 << 31, 1 << 27]);
                     }
                     Call::Clear { .. } => step.screen.size_number = 0,

@@ -46,7 +46,7 @@ fn cost(case: &Case) -> u128 {
         sum += u128::from(step.screen.size_number / 512) * 4096 + u128::from(step.screen.size_number % 512) * 256;
         match step.call {
             Call::Clear { colour, depth } => sum += u128::from(colour) + u128::from(depth),
-            Call::RowCheck { row } | Call::Row { row } => sum += u128::from(row),
+            Call::RowCheck { row } | Call::Row { row, .. } => sum += u128::from(row),
             Call::Draw(t) => {
                 sum += t.vertices.numbers().iter().map(|v| u128::from(v.unsigned_abs())).sum::<u128>();
                 for p in planes(&t) {
@@ -137,7 +137,9 @@ fn candidates(case: &Case) -> Vec<Case> {
             Call::RowCheck { row } => {
                 smaller(i64::from(row)).iter().for_each(|&v| push(Call::RowCheck { row: v as u32 }))
             }
-            Call::Row { row } => smaller(i64::from(row)).iter().for_each(|&v| push(Call::Row { row: v as u32 })),
+            Call::Row { area, row } => {
+                smaller(i64::from(row)).iter().for_each(|&v| push(Call::Row { area, row: v as u32 }))
+            }
             Call::Draw(t) => {
                 let with_planes = |p: [Plane; 4]| {
                     let mut new = t;

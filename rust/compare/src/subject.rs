@@ -1,13 +1,13 @@
 //! What is compared with the second program: the engine, or (to show that the
 //! comparison can fail) a deliberately wrong variant of the second program.
 
-use crate::case::{second_screen, second_triangle};
+use crate::case::{second_screen, second_triangle, Area};
 use crate::machine::broken;
 use crate::machine::case::plain_state;
 use merikohin::raw::{self, Drawn, Ran};
 use merikohin::{Refusal, Screen, State, Triangle};
 
-/// The slips a wrong variant can have: four of the drawing, the others of the
+/// The slips a wrong variant can have: five of the drawing, the others of the
 /// machine.
 #[derive(Clone, Copy, Debug, PartialEq, Eq)]
 pub enum Slip {
@@ -20,6 +20,8 @@ pub enum Slip {
     Count,
     /// A refused clear or triangle changes a byte.
     RefusalWrites,
+    /// The depth row is the row's colours.
+    ColoursForDepths,
     /// DOT adds four products before the shift.
     DotSum,
     /// TREEIN and TREEVAL use the new r1 for the leaves.
@@ -47,15 +49,16 @@ pub enum Slip {
 
 impl Slip {
     pub fn of_the_machine(self) -> bool {
-        !matches!(self, Slip::Ties | Slip::SignedDepth | Slip::Count | Slip::RefusalWrites)
+        !matches!(self, Slip::Ties | Slip::SignedDepth | Slip::Count | Slip::RefusalWrites | Slip::ColoursForDepths)
     }
 }
 
-pub const SLIPS: [(&str, Slip); 15] = [
+pub const SLIPS: [(&str, Slip); 16] = [
     ("ties", Slip::Ties),
     ("signed-depth", Slip::SignedDepth),
     ("count", Slip::Count),
     ("refusal-writes", Slip::RefusalWrites),
+    ("colours-for-depths", Slip::ColoursForDepths),
     ("dot-sum", Slip::DotSum),
     ("new-r1", Slip::NewR1),
     ("same-register", Slip::SameRegister),
@@ -86,8 +89,37 @@ pub struct RowSeen {
     pub part: Option<(usize, usize)>,
 }
 
-pub fn part_of(ram: &[u8], part: &[u8]) -> (usize, usize) {
+fn part_of(ram: &[u8], part: &[u8]) -> (usize, usize) {
     ((part.as_ptr() as usize).wrapping_sub(ram.as_ptr() as usize), part.len())
+}
+
+/// What the second program answers to a row of an area.
+pub fn second_row(ram: &[u8], screen: second::Screen, area: Area, row: u32) -> RowSeen {
+    let (number, part) = match area {
+        Area::Colours => second::row(ram, screen, row),
+        Area::Depths => second::depth_row(ram, screen, row),
+    };
+    let (start, length) = part_of(ram, part);
+    RowSeen { number, start: start as u64, length: length as u64, part: Some((start, length)) }
+}
+
+/// What the engine answers, as C has it and as Rust has it.
+fn engine_row(ram: &[u8], s: Screen, area: Area, row: u32) -> RowSeen {
+    let located = match area {
+        Area::Colours => raw::row(ram, s, row),
+        Area::Depths => raw::depth_row(ram, s, row),
+    };
+    let end = u128::from(located.start) + u128::from(located.length);
+    let part = if end <= ram.len() as u128 {
+        let answer = match area {
+            Area::Colours => merikohin::row(ram, s, row),
+            Area::Depths => merikohin::depth_row(ram, s, row),
+        };
+        (number_of(answer) == located.number).then(|| part_of(ram, answer.unwrap_or(&ram[..0])))
+    } else {
+        None
+    };
+    RowSeen { number: located.number, start: located.start, length: located.length, part }
 }
 
 impl Subject {
@@ -136,24 +168,11 @@ impl Subject {
         }
     }
 
-    pub fn row(self, ram: &[u8], s: Screen, row: u32) -> RowSeen {
+    pub fn row(self, ram: &[u8], s: Screen, area: Area, row: u32) -> RowSeen {
         match self {
-            Subject::Engine => {
-                let located = raw::row(ram, s, row);
-                let end = u128::from(located.start) + u128::from(located.length);
-                let part = if end <= ram.len() as u128 {
-                    let answer = merikohin::row(ram, s, row);
-                    (number_of(answer) == located.number).then(|| part_of(ram, answer.unwrap_or(&ram[..0])))
-                } else {
-                    None
-                };
-                RowSeen { number: located.number, start: located.start, length: located.length, part }
-            }
-            Subject::Broken(_) => {
-                let (number, part) = second::row(ram, second_screen(s), row);
-                let (start, length) = part_of(ram, part);
-                RowSeen { number, start: start as u64, length: length as u64, part: Some((start, length)) }
-            }
+            Subject::Engine => engine_row(ram, s, area, row),
+            Subject::Broken(Slip::ColoursForDepths) => second_row(ram, second_screen(s), Area::Colours, row),
+            Subject::Broken(_) => second_row(ram, second_screen(s), area, row),
         }
     }
 

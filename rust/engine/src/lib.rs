@@ -106,8 +106,8 @@ pub fn draw(ram: &mut [u8], screen: Screen, triangle: Triangle) -> Result<Drawn,
     done(drawn.number).map(|()| Drawn { covered: drawn.covered, written: drawn.written })
 }
 
-/// Whether a row can be read: what [`row`] refuses, this refuses with the same
-/// number.
+/// Whether a row can be read: what [`row`] and [`depth_row`] refuse, this
+/// refuses with the same number.
 ///
 /// ```
 /// use merikohin::{row_check, Refusal, Screen};
@@ -130,7 +130,27 @@ pub fn row_check(ram: &[u8], screen: Screen, row: u32) -> Result<(), Refusal> {
 /// assert_eq!(row(&ram, screen, 4), Err(Refusal::RowOutOfRange));
 /// ```
 pub fn row(ram: &[u8], screen: Screen, row: u32) -> Result<&[u8], Refusal> {
-    let part = raw::row(ram, screen, row);
+    bytes_of(ram, raw::row(ram, screen, row))
+}
+
+/// The row's own 2 × width depth bytes, a part of `ram` and not a copy. C has
+/// where that part stands ([`raw::depth_row`]). Refuses with 3, 5 and 8.
+///
+/// ```
+/// use merikohin::{clear, depth_row, Refusal, Screen};
+/// let mut ram = [0; 256];
+/// let screen = Screen::new(0, 128, 16, 4);
+/// clear(&mut ram, screen, 1, 2)?;
+/// assert_eq!(depth_row(&ram, screen, 3)?, [0, 2].repeat(16));
+/// assert_eq!(depth_row(&ram, screen, 4), Err(Refusal::RowOutOfRange));
+/// # Ok::<(), Refusal>(())
+/// ```
+pub fn depth_row(ram: &[u8], screen: Screen, row: u32) -> Result<&[u8], Refusal> {
+    bytes_of(ram, raw::depth_row(ram, screen, row))
+}
+
+/// The bytes that a part locates.
+fn bytes_of(ram: &[u8], part: raw::RowPart) -> Result<&[u8], Refusal> {
     done(part.number).map(|()| &ram[part.start as usize..][..part.length as usize])
 }
 

@@ -13,7 +13,7 @@ pub struct Drawn {
     pub written: u32,
 }
 
-/// The answer to a row, in places: the row's own bytes are
+/// The answer to a row or a depth row, in places: the row's own bytes are
 /// `ram[start..start + length]`. Refused, both are 0.
 #[repr(C)]
 #[derive(Clone, Copy, Debug, PartialEq, Eq)]
@@ -42,6 +42,7 @@ mod library {
         pub fn merikohin_draw(ram: *mut u8, ram_len: usize, s: Screen, t: Triangle) -> Drawn;
         pub fn merikohin_row_check(ram: *const u8, ram_len: usize, s: Screen, row: u32) -> u32;
         pub fn merikohin_row(ram: *const u8, ram_len: usize, s: Screen, row: u32) -> RowPart;
+        pub fn merikohin_depth_row(ram: *const u8, ram_len: usize, s: Screen, row: u32) -> RowPart;
         pub fn merikohin_fresh() -> State;
         pub fn merikohin_run(
             program: *const u32,
@@ -82,6 +83,13 @@ pub fn row_check(ram: &[u8], screen: Screen, row: u32) -> u32 {
 pub fn row(ram: &[u8], screen: Screen, row: u32) -> RowPart {
     // SAFETY: the slice is lent whole, for the length of the call.
     unsafe { library::merikohin_row(ram.as_ptr(), ram.len(), screen, row) }
+}
+
+/// `merikohin_depth_row`: 0, 3, 5 or 8.
+#[must_use]
+pub fn depth_row(ram: &[u8], screen: Screen, row: u32) -> RowPart {
+    // SAFETY: the slice is lent whole, for the length of the call.
+    unsafe { library::merikohin_depth_row(ram.as_ptr(), ram.len(), screen, row) }
 }
 
 /// `merikohin_fresh`.

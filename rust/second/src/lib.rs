@@ -312,11 +312,21 @@ pub fn row_check(ram: &[u8], screen: Screen, row: u32) -> u32 {
 /// the RAM and not a copy: the 2 × width colour bytes of one row. A refused row
 /// request hands back an empty part".
 pub fn row(ram: &[u8], screen: Screen, row: u32) -> (u32, &[u8]) {
+    row_of_area(ram, screen, screen.colour_start, row)
+}
+
+/// The rule book, 6.4: the 2 · width bytes from the depth of pixel (0, row) on,
+/// with the numbers of a row.
+pub fn depth_row(ram: &[u8], screen: Screen, row: u32) -> (u32, &[u8]) {
+    row_of_area(ram, screen, screen.depth_start, row)
+}
+
+fn row_of_area(ram: &[u8], screen: Screen, area_start: u32, row: u32) -> (u32, &[u8]) {
     let number = row_number(ram.len(), screen, row);
     if number != 0 {
         return (number, &ram[0..0]);
     }
-    let start = i128::from(screen.colour_start) + screen.place(0, i128::from(row));
+    let start = i128::from(area_start) + screen.place(0, i128::from(row));
     let end = start + 2 * screen.width();
     (0, &ram[start as usize..end as usize])
 }

@@ -5,7 +5,8 @@
 
 use crate::problem::{self, Place, Problem};
 use crate::scene::{Item, Scene};
-use merikohin::{Plane, Screen, Triangle};
+use kit::pixels::halves;
+use merikohin::{Plane, Refusal, Screen, Triangle};
 
 /// A pixel is sampled at the point (8x, 8y).
 const SAMPLE_OFFSET: i64 = 0;
@@ -71,13 +72,11 @@ fn flat(value: i32) -> Plane {
     Plane { c: value << 16, a: 0, b: 0 }
 }
 
-/// A pixel's colour and depth.
+/// A pixel's colour and depth. The scene's screen is sound, and the pixel on it.
 fn pixel(ram: &[u8], screen: Screen, x: u32, y: u32) -> (u16, u16) {
-    let at = |start: u32| {
-        let at = start as usize + 2 * (y as usize * screen.width() as usize + x as usize);
-        u16::from_be_bytes([ram[at], ram[at + 1]])
-    };
-    (at(screen.colour_start), at(screen.depth_start))
+    let of = |row: Result<&[u8], Refusal>| halves(row.ok()?).nth(x as usize);
+    let both = of(merikohin::row(ram, screen, y)).zip(of(merikohin::depth_row(ram, screen, y)));
+    both.expect("a pixel of a sound screen")
 }
 
 fn told(triangle: &Triangle, answer: &Option<Answer>, x: u32, y: u32) -> String {

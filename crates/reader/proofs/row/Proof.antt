@@ -1,41 +1,18 @@
--- `row`: the part that `row_part` locates lies within the RAM. It is a part and no copy: its pointer is the slice's, further on
--- by the row's start. Assumes nothing.
-use Prim.Native.Nat.{_+_, _≤_}
-use mathlib.Core.Path.{refl}
-use native.Mathlib.Omega.{arith}
-use lib.ListN.{length}
+-- `row`: the part that `row_part` locates lies within the RAM, and its bytes are those of `bytes_of`. Assumes nothing.
 use borrow.Author.Needs.{needs}
-use Rattle.reader.proofs.RowBounds.{part-fits, own-bytes}
+use Rattle.rules.proofs.Strips.{colours-by-row}
+use Rattle.reader.proofs.RowBounds.{part-fits, handed-back}
 use Rattle.reader.proofs.row.Statement.{statement}
 use Rattle.reader.proofs.row.Tie as tie
-
-fits : (c : tie.After-row-part)
-    → c .row-part .result .start + c .row-part .result .length ≤ length (c .before .before .args .ram .now)
-fits c = rw (c .row-part .ensures .starts, c .row-part .ensures .spans) (part-fits _ _ _)
 
 row-part-requires : tie.Need-row-part-requires
 row-part-requires c κs = search needs
 
-add-end : tie.Need-add-end
-add-end c = omega (arith, fits c)
-
-sub-result : tie.Need-sub-result
-sub-result c = search needs
-
-part-result-start : tie.Need-part-result-start
-part-result-start c = search needs
-
-part-result-end : tie.Need-part-result-end
-part-result-end c = fits c
+bytes-of-requires : tie.Need-bytes-of-requires
+bytes-of-requires c κs = part-fits _ _ _ colours-by-row (c .row-part .ensures)
 
 returns : tie.Need-returns
-returns c = record {
-  bytes = own-bytes _ _ _ _ _ (c .before .row-part .ensures .starts) (c .before .row-part .ensures .spans);
-  block = refl;
-  place = omega (arith, c .before .row-part .ensures .starts);
-}
+returns c = handed-back (c .before .row-part .ensures) (c .bytes-of .ensures)
 
 pub row-spec : {M : Type 1} → statement M
-row-spec =
-    tie.close
-    (tie.spec row-part-requires add-end sub-result part-result-start part-result-end returns)
+row-spec = tie.close (tie.spec row-part-requires bytes-of-requires returns)
