@@ -13,7 +13,7 @@ use Rattle.instructions.specs.Moves.{wordsRead, wordsWritten}
 use Rattle.instructions.specs.Halts.{wordHalt}
 use Rattle.instructions.specs.Step.{Machine, afterST, afterREAD, afterWRITE, effect}
 use Rattle.instructions.proofs.Effects.{effect-ST, effect-READ, effect-WRITE}
-use Rattle.instructions.proofs.Picks.{no-row, or-none}
+use Rattle.instructions.proofs.Picks.{no-case, or-none}
 use Rattle.pieces.specs.declared.state.Cpu.{Cpu}
 use Rattle.pieces.specs.declared.state.View.{View}
 use Rattle.pieces.specs.Pieces.{joined, machine, at}
@@ -23,8 +23,8 @@ use Rattle.access.specs.Moves.{moveHalt}
 
 pub move-fits : (ramLength word byte : ℕ) → moveHalt ramLength word byte ≡ 0 → (word ≤ 1008) × (byte + 64 ≤ ramLength)
 move-fits ramLength word byte e =
-    let (a, e1) = no-row 14 (ltb 1008 word) e in
-    let (b, e2) = no-row 15 (not (eqb (byte % 4) 0) || ltb ramLength (byte + 64)) e1 in
+    let (a, e1) = no-case 14 (ltb 1008 word) e in
+    let (b, e2) = no-case 15 (not (eqb (byte % 4) 0) || ltb ramLength (byte + 64)) e1 in
     let (c, d) = or-none (not (eqb (byte % 4) 0)) (ltb ramLength (byte + 64)) b in
     (ltb-false 1008 word a, ltb-false ramLength (byte + 64) d)
 

@@ -1,4 +1,4 @@
--- A step that does not halt: no row of the table applies, and so each instruction finds what it needs. A halt has a number of the table.
+-- A step that does not halt: no case of the table applies, and so each instruction finds what it needs. A halt has a number of the table.
 use Prim.Native.Nat.{ℕ, _+_, _%_, _≤_, _<_}
 use mathlib.Core.Path.{_≡_, refl}
 use mathlib.Core.Bool.{Bool, true, false, _||_, not}
@@ -14,9 +14,9 @@ use Rattle.instructions.specs.Tree.{refusesPlace}
 use Rattle.instructions.specs.Halts.{wordAt, pastProgram, outsideData, isMove, moveOutsideData, moveOutsideRam}
 use Rattle.instructions.specs.Halts.{screenSet, noScreen, noTree, wordHalt, haltNumber}
 use Rattle.instructions.specs.Run.{isHaltNumber}
-use Rattle.instructions.proofs.Picks.{pick, no-row, or-none}
+use Rattle.instructions.proofs.Picks.{pick, no-case, or-none}
 
--- no row applies to the word w
+-- no case applies to the word w
 pub record NoHalt (edition : Edition) (ramLength : ℕ) (s : State) (w : ℕ) : Type 0 where
   pub known : noInstruction edition (opcode w) ≡ false
   pub inData : outsideData (s .regs) w ≡ false
@@ -30,12 +30,12 @@ pub word-goes-on : (edition : Edition) (ramLength : ℕ) (s : State) (w : ℕ)
     → NoHalt edition ramLength s w
 unfolding wordHalt
 word-goes-on edition ramLength s w e =
-    let (known, e1) = no-row 10 (noInstruction edition (opcode w)) e in
-    let (inData, e2) = no-row 12 (outsideData (s .regs) w) e1 in
-    let (moveInData, e3) = no-row 14 (moveOutsideData (s .regs) w) e2 in
-    let (moveInRam, e4) = no-row 15 (moveOutsideRam ramLength (s .regs) w) e3 in
-    let (screenThere, e5) = no-row 16 (noScreen ramLength s w) e4 in
-    let (treeThere, e6) = no-row 13 (noTree s w) e5 in
+    let (known, e1) = no-case 10 (noInstruction edition (opcode w)) e in
+    let (inData, e2) = no-case 12 (outsideData (s .regs) w) e1 in
+    let (moveInData, e3) = no-case 14 (moveOutsideData (s .regs) w) e2 in
+    let (moveInRam, e4) = no-case 15 (moveOutsideRam ramLength (s .regs) w) e3 in
+    let (screenThere, e5) = no-case 16 (noScreen ramLength s w) e4 in
+    let (treeThere, e6) = no-case 13 (noTree s w) e5 in
     record {
       known = known;
       inData = inData;
@@ -50,11 +50,11 @@ module _ (edition : Edition) (program : List ℕ) (ramLength : ℕ) (s : State) 
   unfolding haltNumber
   in-program =
       ltb-true (s .place) (length program)
-      (not-false (ltb (s .place) (length program)) (no-row 11 (pastProgram program s) e .0))
+      (not-false (ltb (s .place) (length program)) (no-case 11 (pastProgram program s) e .0))
 
   pub goes-on : NoHalt edition ramLength s (wordAt program s)
   unfolding haltNumber
-  goes-on = word-goes-on edition ramLength s (wordAt program s) (no-row 11 (pastProgram program s) e .1)
+  goes-on = word-goes-on edition ramLength s (wordAt program s) (no-case 11 (pastProgram program s) e .1)
 
 -- what each instruction finds
 module _ {edition : Edition} {ramLength : ℕ} {s : State} {w : ℕ} (h : NoHalt edition ramLength s w) where

@@ -38,15 +38,24 @@ module _ {A : Type 0} where
   pub leaves-same : {f g : ℕ → A} → ((k : ℕ) → k < 16 → f k ≡ g k) → leaves f ≡ leaves g
   leaves-same {f} {g} h = each-same f g 16 h
 
+-- what a leaf holds
+pub record Holds : Type 0 where
+  pub inside : Bool
+  pub outside : Bool
+  pub colour : ℕ
+  pub depth : ℕ
+
 -- leaf k of a tree, whole
-pub record Leaf (t : Tree) (k : ℕ) (inside outside : Bool) (colour depth : ℕ) : Type 0 where
-  pub markedI : markI t k ≡ inside
-  pub markedO : markO t k ≡ outside
-  pub coloured : leafColour t k ≡ colour
-  pub deep : leafDepth t k ≡ depth
+pub record Leaf (t : Tree) (k : ℕ) (l : Holds) : Type 0 where
+  pub markedI : markI t k ≡ l .inside
+  pub markedO : markO t k ≡ l .outside
+  pub coloured : leafColour t k ≡ l .colour
+  pub deep : leafDepth t k ≡ l .depth
 
 module _ {k : ℕ} (h : k < 16) where
-  pub leaf-TREESET : (column row mask : ℕ) → Leaf (treeSet column row mask) k (maskBit mask k) (not (maskBit mask k)) 0 0
+  pub leaf-TREESET : (column row mask : ℕ)
+      → Leaf (treeSet column row mask) k
+      (record { inside = maskBit mask k; outside = not (maskBit mask k); colour = 0; depth = 0 })
   unfolding treeSet
   leaf-TREESET column row mask = record {
     markedI = leaf-at (maskBit mask) false h;
@@ -57,10 +66,12 @@ module _ {k : ℕ} (h : k < 16) where
 
   module _ (a b : ℕ) (t : Tree) where
     pub leaf-TREEIN : Leaf (treeIn a b t) k
-        (markI t k && not (positive (signed (leafValue a b k))))
-        (markO t k || negative (signed (leafValue a b k)))
-        (leafColour t k)
-        (leafDepth t k)
+        (record {
+          inside = markI t k && not (positive (signed (leafValue a b k)));
+          outside = markO t k || negative (signed (leafValue a b k));
+          colour = leafColour t k;
+          depth = leafDepth t k;
+        })
     unfolding treeIn marked
     leaf-TREEIN = record {
       markedI = leaf-at (λ i. markI t i && not (positive (signed (leafValue a b i)))) false h;
@@ -71,10 +82,12 @@ module _ {k : ℕ} (h : k < 16) where
 
     module _ (s : Screen) (ram : List ℕ) where
       pub leaf-TREEVAL-depth : Leaf (treeVal 0 s ram a b t) k
-          (markI t k && not (tooDeep s ram a b t k))
-          (markO t k || tooDeep s ram a b t k)
-          (leafColour t k)
-          (topHalf (leafValue a b k))
+          (record {
+            inside = markI t k && not (tooDeep s ram a b t k);
+            outside = markO t k || tooDeep s ram a b t k;
+            colour = leafColour t k;
+            depth = topHalf (leafValue a b k);
+          })
       unfolding treeVal treeDepth marked deepened
       leaf-TREEVAL-depth = record {
         markedI = leaf-at (λ i. markI t i && not (tooDeep s ram a b t i)) false h;
@@ -85,10 +98,12 @@ module _ {k : ℕ} (h : k < 16) where
 
       pub leaf-TREEVAL-colour : (part : ℕ) → eqb part 0 ≡ false
           → Leaf (treeVal part s ram a b t) k
-          (markI t k)
-          (markO t k)
-          (replaced part (leafValue a b k) (leafColour t k))
-          (leafDepth t k)
+          (record {
+            inside = markI t k;
+            outside = markO t k;
+            colour = replaced part (leafValue a b k) (leafColour t k);
+            depth = leafDepth t k;
+          })
       unfolding treeVal treeColour
       leaf-TREEVAL-colour part e =
           rw e (record {

@@ -20,20 +20,29 @@ last i n l = go (decLt i n)
     go (yes b) = inl b
     go (no d) = inr (omega (arith, d))
 
--- the first n words of a READ
-pub record Copied (ram : List ℕ) (to from n : ℕ) (memory after : List ℕ) : Type 0 where
+-- so many words, from one address to another
+pub record Move : Type 0 where
+  pub from : ℕ
+  pub to : ℕ
+  pub count : ℕ
+
+abbrev pub move : ℕ → ℕ → ℕ → Move
+move from to count = record { from = from; to = to; count = count }
+
+-- the words of a READ
+pub record Copied (ram : List ℕ) (w : Move) (memory after : List ℕ) : Type 0 where
   pub same-length : length after ≡ length memory
-  pub words : (i : ℕ) → i < n → getD after (to + i) 0 ≡ loadWord ram (from + 4 * i)
-  pub others : (k : ℕ) → (k < to) ⊎ (to + n ≤ k) → getD after k 0 ≡ getD memory k 0
+  pub words : (i : ℕ) → i < w .count → getD after (w .to + i) 0 ≡ loadWord ram (w .from + 4 * i)
+  pub others : (k : ℕ) → (k < w .to) ⊎ (w .to + w .count ≤ k) → getD after k 0 ≡ getD memory k 0
 
 module _ (ram : List ℕ) (to from : ℕ) (memory : List ℕ) where
-  copied : (n : ℕ) → to + n ≤ length memory → Copied ram to from n memory (upto (wordRead ram to from) n memory)
+  copied : (n : ℕ) → to + n ≤ length memory → Copied ram (move from to n) memory (upto (wordRead ram to from) n memory)
   unfolding upto wordRead
   copied zero h = record { same-length = refl; words = λ i l. absurd (omega arith); others = λ k o. refl }
   copied (suc n) h =
       let m = upto (wordRead ram to from) n memory in
       let v = loadWord ram (from + 4 * n) in
-      let c : Copied ram to from n memory m = copied n (omega arith) in
+      let c : Copied ram (move from to n) memory m = copied n (omega arith) in
       record {
         same-length = length-set m (to + n) v ∙ c .same-length;
         words = λ i l.
@@ -47,24 +56,24 @@ module _ (ram : List ℕ) (to from : ℕ) (memory : List ℕ) where
       }
 
   -- READ
-  pub read-pointwise : to + 16 ≤ length memory → Copied ram to from 16 memory (wordsRead ram to from memory)
+  pub read-pointwise : to + 16 ≤ length memory → Copied ram (move from to 16) memory (wordsRead ram to from memory)
   unfolding wordsRead
   read-pointwise h = copied 16 h
 
--- the first n words of a WRITE
-pub record Stored (memory : List ℕ) (from to n : ℕ) (ram after : List ℕ) : Type 0 where
+-- the words of a WRITE
+pub record Stored (memory : List ℕ) (w : Move) (ram after : List ℕ) : Type 0 where
   pub same-length : length after ≡ length ram
-  pub words : (i : ℕ) → i < n → loadWord after (to + 4 * i) ≡ getD memory (from + i) 0
-  pub others : (b : ℕ) → (b < to) ⊎ (to + 4 * n ≤ b) → getD after b 0 ≡ getD ram b 0
+  pub words : (i : ℕ) → i < w .count → loadWord after (w .to + 4 * i) ≡ getD memory (w .from + i) 0
+  pub others : (b : ℕ) → (b < w .to) ⊎ (w .to + 4 * w .count ≤ b) → getD after b 0 ≡ getD ram b 0
 
 module _ (memory : List ℕ) (from to : ℕ) (ram : List ℕ) where
-  stored : (n : ℕ) → to + 4 * n ≤ length ram → Stored memory from to n ram (upto (wordWritten memory from to) n ram)
+  stored : (n : ℕ) → to + 4 * n ≤ length ram → Stored memory (move from to n) ram (upto (wordWritten memory from to) n ram)
   unfolding upto wordWritten
   stored zero h = record { same-length = refl; words = λ i l. absurd (omega arith); others = λ b o. refl }
   stored (suc n) h =
       let m = upto (wordWritten memory from to) n ram in
       let v = getD memory (from + n) 0 in
-      let c : Stored memory from to n ram m = stored n (omega arith) in
+      let c : Stored memory (move from to n) ram m = stored n (omega arith) in
       record {
         same-length = length-storeWord m (to + 4 * n) v ∙ c .same-length;
         words = λ i l.
@@ -80,6 +89,6 @@ module _ (memory : List ℕ) (from to : ℕ) (ram : List ℕ) where
       }
 
   -- WRITE
-  pub write-pointwise : to + 64 ≤ length ram → Stored memory from to 16 ram (wordsWritten memory from to ram)
+  pub write-pointwise : to + 64 ≤ length ram → Stored memory (move from to 16) ram (wordsWritten memory from to ram)
   unfolding wordsWritten
   write-pointwise h = stored 16 h

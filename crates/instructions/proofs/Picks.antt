@@ -1,4 +1,4 @@
--- Laws of choosing by a test: what holds of both choices, and a table of rows whose first wins.
+-- Laws of choosing by a test: what holds of both choices, and a table of cases whose first wins.
 use Prim.Native.Nat.{ℕ, suc}
 use mathlib.Core.Path.{_≡_, refl}
 use mathlib.Core.Bool.{Bool, true, false, _&&_, _||_, false≢true, true≢false}
@@ -13,10 +13,10 @@ module _ {A : Type 0} (P : A → Type 0) (b : Bool) {x y : A} where
       go true p q = p refl
       go false p q = q refl
 
--- a row that does not apply, and the rows below it
-pub no-row : (n : ℕ) {k : ℕ} (b : Bool) → choose b (suc n) k ≡ 0 → (b ≡ false) × (k ≡ 0)
-no-row n true e = absurd (omega arith)
-no-row n false e = (refl, e)
+-- a case that does not apply, and the cases below it
+pub no-case : (n : ℕ) {k : ℕ} (b : Bool) → choose b (suc n) k ≡ 0 → (b ≡ false) × (k ≡ 0)
+no-case n true e = absurd (omega arith)
+no-case n false e = (refl, e)
 
 pub or-none : (a b : Bool) → (a || b) ≡ false → (a ≡ false) × (b ≡ false)
 or-none true b e = absurd (true≢false e)

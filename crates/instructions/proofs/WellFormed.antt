@@ -19,7 +19,7 @@ use Rattle.instructions.specs.Step.{Machine, step, withRegisters, withPl
 use Rattle.instructions.specs.Step.{afterResult, afterST, afterCALL, afterREAD, afterWRITE, afterSCRSET, afterCLS}
 use Rattle.instructions.specs.Step.{afterTREESET, afterTREEIN, afterTREEVAL, afterTREEPUT, effect, performed, isHalted, nextHalt}
 use Rattle.instructions.specs.Run.{run, isHaltNumber, illFormed, machineNumber, runNumber, freshState}
-use Rattle.instructions.proofs.Picks.{pick, no-row, or-none, and-none, none-and}
+use Rattle.instructions.proofs.Picks.{pick, no-case, or-none, and-none, none-and}
 use Rattle.instructions.proofs.Registers.{write-keeps-zero}
 use Rattle.instructions.proofs.Halts.{NoHalt, goes-on, halt-known}
 use Rattle.instructions.proofs.Halts.{SCRSET-sound, TREESET-shown, TREESET-place, TREEIN-planted, TREEVAL-planted}
@@ -232,10 +232,10 @@ module _ (edition : Edition) (program : List ℕ) where
   unfolding machineNumber
   run-accepted n m e =
       let l : SameLengths m (run edition program n m) = run-keeps-lengths edition program n m in
-      let (a, e1) = no-row 0 (ltb 1024 (length program)) e in
-      let (b, e2) = no-row 1 (not (eqb (length (m .memory)) 1024)) e1 in
-      let (c, e3) = no-row 2 (tooLong (length (m .ram))) e2 in
-      let (d, e4) = no-row 3 (illFormed (length (m .ram)) (m .state)) e3 in
+      let (a, e1) = no-case 0 (ltb 1024 (length program)) e in
+      let (b, e2) = no-case 1 (not (eqb (length (m .memory)) 1024)) e1 in
+      let (c, e3) = no-case 2 (tooLong (length (m .ram))) e2 in
+      let (d, e4) = no-case 3 (illFormed (length (m .ram)) (m .state)) e3 in
       rw (a, l .memory, b, run-well-formed n m d, l .ram, c)
 
 -- a fresh state is well-formed in any RAM

@@ -1,4 +1,4 @@
--- docs/RULES.md, 11 (01, "Halts"): the rows of the table, in its order; "The first row that applies wins."
+-- docs/RULES.md, 11 (01, "Halts"): the cases of the table, in its order; "The first row that applies wins."
 use Prim.Native.Nat.{ℕ, _+_, _%_}
 use mathlib.Core.Bool.{Bool, _&&_, _||_, not}
 use mathlib.Core.List.{List}
@@ -56,7 +56,7 @@ noTree s w =
     || (eqb (opcode w) TREEIN || eqb (opcode w) TREEVAL || eqb (opcode w) TREEPUT) && not (s .planted)
     || eqb (opcode w) TREEVAL && ltb 3 (imm w)
 
--- the rows for the word w, after 12
+-- the cases for the word w, after 12
 unfoldable pub wordHalt : Edition → ℕ → State → ℕ → ℕ
 wordHalt edition ramLength s w =
     choose (noInstruction edition (opcode w)) 11

@@ -13,17 +13,17 @@ use Rattle.instructions.specs.Opcodes.{current}
 use Rattle.instructions.specs.Step.{Machine}
 use Rattle.instructions.specs.Run.{run, steps, illFormed, machineNumber, runNumber}
 use Rattle.instructions.specs.Calls.{outcome, Runs}
-use Rattle.instructions.proofs.Picks.{no-row}
+use Rattle.instructions.proofs.Picks.{no-case}
 use Rattle.runs.specs.Runs.{Ready, Ends}
 
 module _ (program : List ℕ) (m : Machine) where
   pub accepted-ready : runNumber program m ≡ 0 → Ready program m
   unfolding machineNumber
   accepted-ready e =
-      let (a, e1) = no-row 0 (ltb 1024 (length program)) e in
-      let (b, e2) = no-row 1 (not (eqb (length (m .memory)) 1024)) e1 in
-      let (c, e3) = no-row 2 (tooLong (length (m .ram))) e2 in
-      let (d, e4) = no-row 3 (illFormed (length (m .ram)) (m .state)) e3 in
+      let (a, e1) = no-case 0 (ltb 1024 (length program)) e in
+      let (b, e2) = no-case 1 (not (eqb (length (m .memory)) 1024)) e1 in
+      let (c, e3) = no-case 2 (tooLong (length (m .ram))) e2 in
+      let (d, e4) = no-case 3 (illFormed (length (m .ram)) (m .state)) e3 in
       record {
         short = ltb-false 1024 (length program) a;
         size = eqb-true (length (m .memory)) 1024 (not-false (eqb (length (m .memory)) 1024) b);

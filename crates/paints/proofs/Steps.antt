@@ -137,10 +137,12 @@ module _ (edition : Edition) (program : List ℕ) (m : Machine)
     -- TREEVAL 0 judges each leaf against the stored depth of its pixel, a pixel of the screen
     pub TREEVAL-judges : opcode w ≡ TREEVAL → imm w ≡ 0 → (k : ℕ) → k < 16
         → Leaf (step edition program m .state .tree) k
-        (markI tree k && not (behindPixel screen (m .ram) tree (inR1 regs w) (inR2 regs w) k))
-        (markO tree k || behindPixel screen (m .ram) tree (inR1 regs w) (inR2 regs w) k)
-        (leafColour tree k)
-        (topHalf (leafValue (inR1 regs w) (inR2 regs w) k))
+        (record {
+          inside = markI tree k && not (behindPixel screen (m .ram) tree (inR1 regs w) (inR2 regs w) k);
+          outside = markO tree k || behindPixel screen (m .ram) tree (inR1 regs w) (inR2 regs w) k;
+          colour = leafColour tree k;
+          depth = topHalf (leafValue (inR1 regs w) (inR2 regs w) k);
+        })
     TREEVAL-judges e z k h =
         rw (tree-TREEVAL edition program m c w at e, z) (leaf-TREEVAL-depth h (inR1 regs w) (inR2 regs w) tree screen (m .ram))
 
