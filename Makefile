@@ -1,4 +1,4 @@
-# make            the library (archive and shared), the command merikohin, and the picture
+# make            the library (archive and shared), the command merikohin, and the pictures
 # make demo       proves and runs the demonstration
 # make check      the gate: all proofs, all comparisons, all tests
 # make bench      the speed tables
@@ -17,7 +17,7 @@ SHARED := target/shared/libmerikohin.so.$(VERSION)
 CARGO := cd rust && MERIKOHIN_LIB_DIR=$$PWD/../$(NATIVE) CARGO_HOME=$$PWD/../target/cargo cargo
 SOURCES := $(shell find crates -name '*.rt' -o -name '*.antt') $(wildcard include/*.h bridge/*)
 
-all: target/picture.png $(if $(filter x86_64,$(MACHINE)),$(SHARED))
+all: target/picture.png target/edge.png $(if $(filter x86_64,$(MACHINE)),$(SHARED))
 
 $(NATIVE)/libmerikohin.a: $(SOURCES)
 	$(RT) staticlib merikohin
@@ -35,6 +35,9 @@ command: $(NATIVE)/libmerikohin.a
 
 target/picture.png: command
 	target/rust/release/picture >$@
+
+target/edge.png: command
+	target/rust/release/picture --edge >$@
 
 demo:
 	tools/demonstration

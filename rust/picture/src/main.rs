@@ -1,36 +1,84 @@
-//! Draws a review desk's picture with the engine and writes it as a PNG file
-//! to standard output:
+//! Draws a picture with the engine and writes it as a PNG file to standard
+//! output: the review desk, or one shared edge enlarged.
 //!
 //!     target/rust/release/picture > docs/picture.png
+//!     target/rust/release/picture --edge > docs/edge.png
 
-mod scene;
+mod camera;
+mod canvas;
+mod desk;
+mod edge;
+mod pitch;
+mod sound;
+mod strip;
+mod text;
 
+use canvas::Canvas;
+use kit::args::{Arg, Args};
 use kit::{pixels, png};
 use std::io::Write;
+use std::process::ExitCode;
 
-fn main() {
-    let file = png::encode(scene::WIDTH, scene::HEIGHT, &drawn());
-    std::io::stdout().write_all(&file).expect("standard output takes the picture");
+fn main() -> ExitCode {
+    match Args::from_env().and_then(wanted) {
+        Ok(canvas) => {
+            let (width, height) = canvas.size();
+            let file = png::encode(width, height, &pixels::rgb_rows(&canvas.colours()));
+            std::io::stdout().write_all(&file).expect("standard output takes the picture");
+            ExitCode::SUCCESS
+        }
+        Err(problem) => {
+            eprintln!("picture: {problem}; it is used as picture [--edge] > FILE.png");
+            ExitCode::from(2)
+        }
+    }
 }
 
-/// The picture, three bytes a pixel.
-fn drawn() -> Vec<u8> {
-    let mut ram = vec![0; scene::RAM];
-    scene::draw(&mut ram);
-    let row = |y: u32| merikohin::row(&ram, scene::SCREEN, y).expect("a row of the screen");
-    let colours: Vec<u16> = (0..scene::HEIGHT).flat_map(|y| pixels::halves(row(y))).collect();
-    pixels::rgb_rows(&colours)
+/// The picture that the command line asks for.
+fn wanted(args: Args) -> Result<Canvas, String> {
+    let words: Vec<Arg> = args.collect();
+    match &words[..] {
+        [] => Ok(desk::draw()),
+        [Arg::Option(word)] if word == "--edge" => Ok(edge::draw()),
+        _ => Err("this command line is not understood".into()),
+    }
 }
 
 #[cfg(test)]
 mod tests {
     use super::*;
 
-    /// docs/picture.png, read back by the reader that shares nothing with the
-    /// writer, is what the engine draws.
+    fn drawn(words: &[&str]) -> Canvas {
+        wanted(Args::new(words.iter().copied())).unwrap()
+    }
+
+    /// The files in docs/, read back by the reader that shares nothing with the
+    /// writer, are what the engine draws.
     #[test]
-    fn the_file_has_the_picture() {
-        let file = std::fs::read("../../docs/picture.png").unwrap();
-        assert!(png::decode(&file) == Ok((scene::WIDTH, scene::HEIGHT, drawn())));
+    fn the_files_have_the_pictures() {
+        for (file, words) in [("picture", &[][..]), ("edge", &["--edge"])] {
+            let canvas = drawn(words);
+            let (width, height) = canvas.size();
+            let bytes = std::fs::read(format!("../../docs/{file}.png")).unwrap();
+            assert!(png::decode(&bytes) == Ok((width, height, pixels::rgb_rows(&canvas.colours()))), "{file}");
+        }
+    }
+
+    /// The README says how many triangles they are.
+    #[test]
+    fn the_readme_counts_them() {
+        let readme = std::fs::read_to_string("../../README.md").unwrap();
+        for words in [&[][..], &["--edge"]] {
+            let count = drawn(words).triangles;
+            let said = format!("{},{:03} triangles", count / 1000, count % 1000);
+            assert!(readme.contains(&said), "{said}");
+        }
+    }
+
+    #[test]
+    fn other_words_are_refused() {
+        for words in [&["--edges"][..], &["edge"], &["--edge", "--edge"]] {
+            assert!(wanted(Args::new(words.iter().copied())).is_err());
+        }
     }
 }
