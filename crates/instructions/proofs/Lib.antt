@@ -8,6 +8,7 @@ pub mod Filled
 pub mod Lengths
 pub mod WellFormed
 pub mod Run
+pub mod Editions
 pub mod Trees
 pub mod Unique
 pub mod Stepping
