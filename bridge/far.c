@@ -61,6 +61,10 @@ static void answer(struct request *r)
         r->ran = merikohin_run((uint32_t *)(area + PROGRAM), r->program_len, (uint32_t *)(area + MEMORY), r->memory_len, ram,
                                r->ram_len, r->state, r->budget);
         break;
+    case STEP:
+        r->stepped = merikohin_step((uint32_t *)(area + PROGRAM), r->program_len, (uint32_t *)(area + MEMORY), r->memory_len,
+                                    ram, r->ram_len, r->state);
+        break;
     }
 }
 

@@ -132,8 +132,9 @@ merikohin_state merikohin_fresh(void)
     return request->state;
 }
 
-merikohin_ran merikohin_run(const uint32_t *program, size_t program_len, uint32_t *memory, size_t memory_len, uint8_t *ram,
-                            size_t ram_len, merikohin_state state, uint64_t budget)
+/* A run and a step are lent the same; that the program stays is checked here. */
+static void machine_call(uint32_t call, const uint32_t *program, size_t program_len, uint32_t *memory, size_t memory_len,
+                         uint8_t *ram, size_t ram_len, merikohin_state state, uint64_t budget)
 {
     lend(ram, ram_len);
     must(program_len <= (MEMORY - PROGRAM) / 4 && memory_len <= (WORDS_END - MEMORY) / 4, "words too many to hand over");
@@ -143,10 +144,23 @@ merikohin_ran merikohin_run(const uint32_t *program, size_t program_len, uint32_
         memcpy(part(PROGRAM), program, 4 * program_len);
     if (memory_len > 0)
         memcpy(part(MEMORY), memory, 4 * memory_len);
-    hand_over(RUN);
-    must(program_len == 0 || memcmp(part(PROGRAM), program, 4 * program_len) == 0, "a run changed the program");
+    hand_over(call);
+    must(program_len == 0 || memcmp(part(PROGRAM), program, 4 * program_len) == 0, "a machine call changed the program");
     if (memory_len > 0)
         memcpy(memory, part(MEMORY), 4 * memory_len);
     take_back(ram, ram_len);
+}
+
+merikohin_ran merikohin_run(const uint32_t *program, size_t program_len, uint32_t *memory, size_t memory_len, uint8_t *ram,
+                            size_t ram_len, merikohin_state state, uint64_t budget)
+{
+    machine_call(RUN, program, program_len, memory, memory_len, ram, ram_len, state, budget);
     return request->ran;
+}
+
+merikohin_stepped merikohin_step(const uint32_t *program, size_t program_len, uint32_t *memory, size_t memory_len, uint8_t *ram,
+                                 size_t ram_len, merikohin_state state)
+{
+    machine_call(STEP, program, program_len, memory, memory_len, ram, ram_len, state, 1);
+    return request->stepped;
 }

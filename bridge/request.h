@@ -6,7 +6,7 @@
 
 #include "merikohin.h"
 
-enum { CLEAR, DRAW, ROW_CHECK, ROW, DEPTH_ROW, FRESH, RUN };
+enum { CLEAR, DRAW, ROW_CHECK, ROW, DEPTH_ROW, FRESH, RUN, STEP };
 
 struct request {
     uint64_t program_len, memory_len, ram_len, budget;
@@ -19,6 +19,7 @@ struct request {
     merikohin_drawn drawn;
     merikohin_row_part part;
     merikohin_ran ran;
+    merikohin_stepped stepped;
 };
 
 /* Where things stand in the file, in bytes. */

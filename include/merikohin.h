@@ -218,6 +218,13 @@ typedef struct merikohin_ran {
     merikohin_state state;
 } merikohin_ran;
 
+/* The answer to a step: its number, 1 if it was carried out and else 0, and the
+ * state after it. There is no padding. */
+typedef struct merikohin_stepped {
+    uint32_t number, carried_out;
+    merikohin_state state;
+} merikohin_stepped;
+
 /* Clears a screen: every pixel gets the given colour and the given depth; all
  * other bytes of RAM stay as they were. Answers 0 when done, 3 if RAM is too
  * long, 5 if the screen is not sound. */
@@ -273,6 +280,16 @@ merikohin_state merikohin_fresh(void);
 MERIKOHIN_MUST_USE
 merikohin_ran merikohin_run(const uint32_t *program, size_t program_len, uint32_t *memory, size_t memory_len,
                             uint8_t *ram, size_t ram_len, merikohin_state state, uint64_t budget);
+
+/* Takes one step: takes a state by value and gives one back. Answers 0 with
+ * carried_out 1 and the state after the step; or 0 with carried_out 0 where the
+ * step halts, which changes only the halt number, or where the state is halted
+ * already, which stays; or 1, 2, 3 or 4 as merikohin_run, with carried_out 0,
+ * the state as given, field by field, and no word or byte changed. Program, data
+ * memory and RAM are as in merikohin_run, and a run is these steps in turn. */
+MERIKOHIN_MUST_USE
+merikohin_stepped merikohin_step(const uint32_t *program, size_t program_len, uint32_t *memory, size_t memory_len,
+                                 uint8_t *ram, size_t ram_len, merikohin_state state);
 
 /* What a number means, in a sentence without a full stop. */
 static inline const char *merikohin_says(uint32_t number)
@@ -374,6 +391,10 @@ MERIKOHIN_ASSERT(sizeof(merikohin_ran) == 288)
 MERIKOHIN_HAS(merikohin_ran, number, 0)
 MERIKOHIN_HAS(merikohin_ran, steps, 8)
 MERIKOHIN_HAS(merikohin_ran, state, 16)
+MERIKOHIN_ASSERT(sizeof(merikohin_stepped) == 280)
+MERIKOHIN_HAS(merikohin_stepped, number, 0)
+MERIKOHIN_HAS(merikohin_stepped, carried_out, 4)
+MERIKOHIN_HAS(merikohin_stepped, state, 8)
 
 #undef MERIKOHIN_HAS
 #undef MERIKOHIN_ASSERT

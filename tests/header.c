@@ -1,5 +1,6 @@
 /* What merikohin.h says and the library does, by C11 and by C++: constants, size
- * numbers, sentences, NULL with length 0, any address, fields without meaning.
+ * numbers, sentences, NULL with length 0, any address, fields without meaning,
+ * single steps.
  * The status is 0 where all holds; else each line that failed is printed.
  */
 #include "merikohin.h"
@@ -66,6 +67,9 @@ static void nothing_lent(void)
     static uint32_t memory[MERIKOHIN_MEMORY_WORDS];
     const merikohin_ran ran = merikohin_run(NULL, 0, memory, MERIKOHIN_MEMORY_WORDS, NULL, 0, merikohin_fresh(), 9);
     HOLDS(ran.number == MERIKOHIN_DONE && ran.steps == 0 && ran.state.halt == MERIKOHIN_HALT_PLACE);
+    HOLDS(merikohin_step(NULL, 0, NULL, 0, NULL, 0, merikohin_fresh()).number == MERIKOHIN_MEMORY_NOT_1024);
+    const merikohin_stepped stepped = merikohin_step(NULL, 0, memory, MERIKOHIN_MEMORY_WORDS, NULL, 0, merikohin_fresh());
+    HOLDS(stepped.number == MERIKOHIN_DONE && stepped.carried_out == 0 && stepped.state.halt == MERIKOHIN_HALT_PLACE);
 }
 
 /* At every address of RAM a clear, a row and a depth row. */
@@ -104,6 +108,34 @@ static void without_meaning(void)
     HOLDS(ran.state.tree.column == 5 && ran.state.tree.depth[15] == 6 && ran.state.tree.has_depth == 1);
 }
 
+/* A step that is carried out, one that halts, one from a halted state and one refused; and that they in turn are a run. */
+static void steps(void)
+{
+    static uint32_t memory[MERIKOHIN_MEMORY_WORDS];
+    static uint8_t ram[64];
+    const uint32_t program[] = {(uint32_t)MERIKOHIN_LI << 26 | 1 << 21 | 7, (uint32_t)MERIKOHIN_ST << 26 | 1 << 21 | 3};
+    merikohin_state state = merikohin_fresh();
+    state.zero = 2;
+    uint64_t count = 0;
+    for (uint32_t k = 0; k < 4; k++) {
+        const merikohin_stepped s = merikohin_step(program, 2, memory, MERIKOHIN_MEMORY_WORDS, ram, sizeof ram, state);
+        HOLDS(s.number == MERIKOHIN_DONE && s.carried_out == (k < 2));
+        HOLDS(s.state.place == (k < 2 ? k + 1 : 2) && s.state.halt == (k < 2 ? MERIKOHIN_HALT_NONE : MERIKOHIN_HALT_PLACE));
+        HOLDS(s.state.registers[1] == 7 && s.state.zero == 0 && memory[3] == (k < 1 ? 0 : 7));
+        state = s.state;
+        count += s.carried_out;
+    }
+    memory[3] = 0;
+    const merikohin_ran ran = merikohin_run(program, 2, memory, MERIKOHIN_MEMORY_WORDS, ram, sizeof ram, merikohin_fresh(), 4);
+    HOLDS(ran.number == MERIKOHIN_DONE && ran.steps == count && memory[3] == 7);
+    HOLDS(memcmp(&ran.state, &state, sizeof state) == 0);
+
+    state = merikohin_fresh();
+    state.registers[0] = 1, state.zero = 2, state.tree.inside[15] = 3;
+    const merikohin_stepped s = merikohin_step(program, 2, memory, MERIKOHIN_MEMORY_WORDS, ram, sizeof ram, state);
+    HOLDS(s.number == MERIKOHIN_STATE_ILL_FORMED && s.carried_out == 0 && memcmp(&s.state, &state, sizeof state) == 0);
+}
+
 int main(void)
 {
     const uint32_t numbers[] = {0, 1, 2, 3, 4, 5, 6, 7, 8}, halts[] = {0, 11, 12, 13, 14, 15, 16, 17};
@@ -113,5 +145,6 @@ int main(void)
     nothing_lent();
     any_address();
     without_meaning();
+    steps();
     return failed;
 }
