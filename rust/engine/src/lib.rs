@@ -66,6 +66,13 @@ pub struct Ran {
     pub state: State,
 }
 
+/// What a step did: whether it was carried out, and the state after it.
+#[derive(Clone, Copy, Debug, PartialEq, Eq)]
+pub struct Stepped {
+    pub carried_out: bool,
+    pub state: State,
+}
+
 /// The refusal of a number; done where it is 0. The library answers no number
 /// without its refusal.
 fn done(number: u32) -> Result<(), Refusal> {
@@ -186,6 +193,28 @@ pub fn run(program: &[u32], memory: &mut [u32], ram: &mut [u8], state: State, bu
     done(ran.number).map(|()| Ran { steps: ran.steps, state: ran.state })
 }
 
+/// Takes one step from a state. It is carried out unless it halts, which changes
+/// only the halt number, or the state was halted already, which stays. A run is
+/// these steps in turn. Refuses with 1, 2, 3 and 4; the state is then still the
+/// caller's.
+///
+/// ```
+/// use merikohin::{step, Halt, Refusal};
+/// let mut memory = [0; merikohin::MEMORY_WORDS];
+/// let program = [0x0820_0007]; // LI R1, R0(7)
+/// let first = step(&program, &mut memory, &mut [], merikohin::fresh())?;
+/// assert_eq!((first.carried_out, first.state.registers[1], first.state.halted()), (true, 7, None));
+/// let second = step(&program, &mut memory, &mut [], first.state)?;
+/// assert_eq!((second.carried_out, second.state.halted()), (false, Some(Halt::Place)));
+/// assert_eq!(step(&program, &mut memory, &mut [], second.state), Ok(second)); // halted, it stays
+/// assert_eq!(step(&program, &mut memory[1..], &mut [], first.state), Err(Refusal::MemoryNot1024));
+/// # Ok::<(), Refusal>(())
+/// ```
+pub fn step(program: &[u32], memory: &mut [u32], ram: &mut [u8], state: State) -> Result<Stepped, Refusal> {
+    let stepped = raw::step(program, memory, ram, state);
+    done(stepped.number).map(|()| Stepped { carried_out: stepped.carried_out != 0, state: stepped.state })
+}
+
 #[cfg(test)]
 mod tests {
     use super::*;
@@ -197,10 +226,14 @@ mod tests {
         assert_eq!((size_of::<Screen>(), size_of::<Plane>(), size_of::<Vertices>()), (12, 12, 24));
         assert_eq!((size_of::<Triangle>(), size_of::<raw::Drawn>(), size_of::<raw::RowPart>()), (72, 12, 24));
         assert_eq!((size_of::<Tree>(), size_of::<State>(), size_of::<raw::Ran>()), (108, 272, 288));
+        assert_eq!(size_of::<raw::Stepped>(), 280);
         let state = fresh();
         let at = |field: *const u32| field as usize - &state as *const State as usize;
         assert_eq!([at(&state.place), at(&state.negative), at(&state.zero), at(&state.halt)], [128, 132, 136, 140]);
         assert_eq!([at(&state.has_screen), at(&state.has_tree), at(&state.tree.has_depth)], [144, 160, 268]);
+        let stepped = raw::Stepped { number: 0, carried_out: 0, state };
+        let at = |field: *const u32| field as usize - &stepped as *const raw::Stepped as usize;
+        assert_eq!([at(&stepped.number), at(&stepped.carried_out), at(&stepped.state.registers[0])], [0, 4, 8]);
     }
 
     /// The header's sentences and these are the same, and its constants too.

@@ -33,8 +33,18 @@ pub struct Ran {
     pub state: State,
 }
 
+/// The answer to a step: its number, 1 if it was carried out and else 0, and the
+/// state after it; refused, the state as given.
+#[repr(C)]
+#[derive(Clone, Copy, Debug, PartialEq, Eq)]
+pub struct Stepped {
+    pub number: u32,
+    pub carried_out: u32,
+    pub state: State,
+}
+
 mod library {
-    use super::{Drawn, Ran, RowPart, Screen, State, Triangle};
+    use super::{Drawn, Ran, RowPart, Screen, State, Stepped, Triangle};
 
     #[link(name = "merikohin", kind = "static")]
     extern "C" {
@@ -54,6 +64,15 @@ mod library {
             state: State,
             budget: u64,
         ) -> Ran;
+        pub fn merikohin_step(
+            program: *const u32,
+            program_len: usize,
+            memory: *mut u32,
+            memory_len: usize,
+            ram: *mut u8,
+            ram_len: usize,
+            state: State,
+        ) -> Stepped;
     }
 }
 
@@ -114,6 +133,24 @@ pub fn run(program: &[u32], memory: &mut [u32], ram: &mut [u8], state: State, bu
             ram.len(),
             state,
             budget,
+        )
+    }
+}
+
+/// `merikohin_step`: 0, 1, 2, 3 or 4.
+#[must_use]
+pub fn step(program: &[u32], memory: &mut [u32], ram: &mut [u8], state: State) -> Stepped {
+    // SAFETY: the three slices are lent whole, for the length of the call, and
+    // do not overlap; the program is only read.
+    unsafe {
+        library::merikohin_step(
+            program.as_ptr(),
+            program.len(),
+            memory.as_mut_ptr(),
+            memory.len(),
+            ram.as_mut_ptr(),
+            ram.len(),
+            state,
         )
     }
 }

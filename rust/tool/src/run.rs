@@ -5,7 +5,7 @@ use crate::files::{self, Output};
 use crate::problem::{self, Place, Problem};
 use crate::terminal::Progress;
 use kit::words::{fields, numbered, Told};
-use merikohin::{Halt, State};
+use merikohin::{Halt, Refusal, State};
 
 pub struct Asked {
     pub file: String,
@@ -16,7 +16,8 @@ pub struct Asked {
 }
 
 /// Steps between two looks at the progress. A run of m and then n steps ends as
-/// one of m + n does, with the counts added, so a run may be cut anywhere.
+/// one of m + n does, with the counts added, so a run may be cut anywhere; and a
+/// run is single steps in turn.
 const SLICE: u64 = 2_000_000;
 
 /// A machine in the middle of its work.
@@ -30,17 +31,28 @@ struct Machine {
 
 impl Machine {
     fn run(&mut self, budget: u64) -> Result<(), Problem> {
-        let words = &self.program.words;
-        let ran = merikohin::run(words, &mut self.memory, &mut self.ram, self.state, budget);
-        let value = || match ran {
-            Err(merikohin::Refusal::ProgramTooLong) => format!("{} words", words.len()),
-            Err(merikohin::Refusal::RamTooLong) => format!("{} bytes", self.ram.len()),
-            _ => String::new(),
-        };
-        let ran = ran.map_err(|refusal| Problem::refused(refusal, value()))?;
+        let ran = merikohin::run(&self.program.words, &mut self.memory, &mut self.ram, self.state, budget);
+        let ran = ran.map_err(|refusal| self.refused(refusal))?;
         self.state = ran.state;
         self.steps += ran.steps;
         Ok(())
+    }
+
+    fn step(&mut self) -> Result<(), Problem> {
+        let stepped = merikohin::step(&self.program.words, &mut self.memory, &mut self.ram, self.state);
+        let stepped = stepped.map_err(|refusal| self.refused(refusal))?;
+        self.state = stepped.state;
+        self.steps += u64::from(stepped.carried_out);
+        Ok(())
+    }
+
+    fn refused(&self, refusal: Refusal) -> Problem {
+        let value = match refusal {
+            Refusal::ProgramTooLong => format!("{} words", self.program.words.len()),
+            Refusal::RamTooLong => format!("{} bytes", self.ram.len()),
+            _ => String::new(),
+        };
+        Problem::refused(refusal, value)
     }
 }
 
@@ -128,7 +140,7 @@ fn traced(machine: &mut Machine, steps: u64) -> Result<(), Problem> {
         let word = machine.program.words.get(place).copied();
         let draws = word.map_or(false, |word| ["WRITE", "CLS", "TREEPUT"].contains(&name_of(word)));
         let before = (machine.state, machine.memory.clone(), if draws { machine.ram.clone() } else { Vec::new() });
-        machine.run(1)?;
+        machine.step()?;
         let mut changed = state_changes(&before.0, &machine.state);
         changed.extend(memory_changes(&before.1, &machine.memory));
         if draws {
