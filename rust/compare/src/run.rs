@@ -129,14 +129,14 @@ impl Run {
         });
     }
 
-    /// Runs a case of the machine; every run in it is one comparison. Hands
-    /// back the subject's answers if none differed.
+    /// Runs a case of the machine; every run in it is one comparison, and every
+    /// single step. Hands back the subject's answers if none differed.
     pub fn machine(&mut self, case: &machine::case::Case) -> Option<Vec<Ran>> {
         if self.trace {
             eprintln!("{case}");
         }
         let checked = machine::check::check(self.subject, case, &mut self.machine_memories);
-        self.comparisons += checked.answers.len() as u64;
+        self.comparisons += checked.answers.len() as u64 + checked.steps;
         match checked.difference {
             None => Some(checked.answers),
             Some(difference) => {

@@ -4,7 +4,7 @@
 use crate::case::{second_screen, second_triangle, Area};
 use crate::machine::broken;
 use crate::machine::case::plain_state;
-use merikohin::raw::{self, Drawn, Ran};
+use merikohin::raw::{self, Drawn, Ran, Stepped};
 use merikohin::{Refusal, Screen, State, Triangle};
 
 /// The slips a wrong variant can have: five of the drawing, the others of the
@@ -45,6 +45,10 @@ pub enum Slip {
     HaltOrder,
     /// A run works on its first step and idles afterwards.
     Idle,
+    /// A single step that halts is told as carried out.
+    HaltingStep,
+    /// A single step is two.
+    TwoSteps,
 }
 
 impl Slip {
@@ -53,7 +57,7 @@ impl Slip {
     }
 }
 
-pub const SLIPS: [(&str, Slip); 16] = [
+pub const SLIPS: [(&str, Slip); 18] = [
     ("ties", Slip::Ties),
     ("signed-depth", Slip::SignedDepth),
     ("count", Slip::Count),
@@ -70,6 +74,8 @@ pub const SLIPS: [(&str, Slip); 16] = [
     ("link-first", Slip::LinkFirst),
     ("halt-order", Slip::HaltOrder),
     ("idle", Slip::Idle),
+    ("halting-step", Slip::HaltingStep),
+    ("two-steps", Slip::TwoSteps),
 ];
 
 #[derive(Clone, Copy, Debug, PartialEq, Eq)]
@@ -187,6 +193,13 @@ impl Subject {
         match self {
             Subject::Engine => raw::run(program, data, ram, state, budget),
             Subject::Broken(slip) => broken::run(slip, program, data, ram, state, budget),
+        }
+    }
+
+    pub fn step(self, program: &[u32], data: &mut [u32], ram: &mut [u8], state: State) -> Stepped {
+        match self {
+            Subject::Engine => raw::step(program, data, ram, state),
+            Subject::Broken(slip) => broken::step(slip, program, data, ram, state),
         }
     }
 }

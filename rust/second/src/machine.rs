@@ -550,3 +550,31 @@ pub fn run(program: &[u32], data: &mut [u32], ram: &mut [u8], given: &State, all
     }
     Ran { number: 0, steps, state }
 }
+
+/// The answer to a step: its number, whether it was carried out, and the state.
+#[derive(Clone, Copy, Debug, PartialEq, Eq)]
+pub struct Stepped {
+    pub number: u32,
+    pub carried_out: bool,
+    pub state: State,
+}
+
+/// A step by itself (docs/RULES.md, 12.1), refused as a run is. It stands beside
+/// the loop of `run`, so that the one can be compared with the other.
+pub fn step(program: &[u32], data: &mut [u32], ram: &mut [u8], given: &State) -> Stepped {
+    let number = run_number(program.len(), data.len(), ram.len(), given);
+    // "A halted state runs 0 steps and stays", and so does a refused one.
+    let mut stepped = Stepped { number, carried_out: false, state: *given };
+    if number != 0 || given.halt != 0 {
+        return stepped;
+    }
+    match halt_number(program, ram.len(), given) {
+        0 => {
+            carry_out(program, data, ram, &mut stepped.state);
+            stepped.carried_out = true;
+        }
+        // "A halting step changes only the halt number and is not counted."
+        halt => stepped.state.halt = halt,
+    }
+    stepped
+}

@@ -4,7 +4,7 @@
 use super::case::{plain_state, second_state};
 use crate::subject::Slip;
 use kit::words::fields;
-use merikohin::raw::Ran;
+use merikohin::raw::{Ran, Stepped};
 use merikohin::State;
 use second::machine::{self, leaf_value, ASRI, CALL, DOT, LD, MULF, READ, SCRSET, ST, TREEIN, TREEVAL, WRITE};
 
@@ -92,6 +92,13 @@ pub fn run(slip: Slip, program: &[u32], data: &mut [u32], ram: &mut [u8], lent: 
         }
     }
     Ran { number: 0, steps, state: plain_state(&state) }
+}
+
+/// A step by itself, with the slips of a step and of a run.
+pub fn step(slip: Slip, program: &[u32], data: &mut [u32], ram: &mut [u8], lent: State) -> Stepped {
+    let ran = run(slip, program, data, ram, lent, if slip == Slip::TwoSteps { 2 } else { 1 });
+    let halting = slip == Slip::HaltingStep && ran.state.halt != lent.halt;
+    Stepped { number: ran.number, carried_out: u32::from(ran.steps > 0 || halting), state: ran.state }
 }
 
 fn result(state: &mut machine::State, register: usize, value: u32) {

@@ -1,6 +1,7 @@
 //! A case of the machine: a program, what data memory and RAM hold at first, a
-//! state, and runs made one after the other, each from where the last stopped.
-//! Every case has a text form that `--case` reads back.
+//! state, and runs made one after the other, each from where the last stopped;
+//! the same is then done by single steps. Every case has a text form that
+//! `--case` reads back.
 
 use crate::case::{numbers, second_screen, Fill};
 use kit::rng::Rng;
@@ -101,7 +102,12 @@ pub struct Case {
     pub state: State,
     /// The steps each run allows.
     pub runs: Vec<u64>,
+    /// The most single steps that are taken: as many as the runs allow, and one
+    /// where they allow none.
+    pub singly: u64,
 }
+
+const SINGLY: u64 = 64;
 
 impl Case {
     /// A program run once from a state.
@@ -117,6 +123,7 @@ impl Case {
             bytes: BTreeMap::new(),
             state,
             runs: vec![steps],
+            singly: SINGLY,
         }
     }
 
@@ -328,6 +335,9 @@ impl fmt::Display for Case {
                 write!(f, " {name}={}", list(&halves))?;
             }
         }
+        if self.singly != SINGLY {
+            write!(f, " singly={}", self.singly)?;
+        }
         self.runs.iter().try_for_each(|steps| write!(f, "; run={steps}"))
     }
 }
@@ -409,6 +419,7 @@ impl std::str::FromStr for Case {
                 "outside" => s.tree.outside = sixteen(value)?,
                 "colour" => s.tree.colour = sixteen(value)?,
                 "depth" => s.tree.depth = sixteen(value)?,
+                "singly" => case.singly = numbers(value, 1)?[0],
                 "run" => case.runs.push(numbers(value, 1)?[0]),
                 _ => match name.strip_prefix('R').and_then(|k| k.parse::<usize>().ok()) {
                     Some(k) if k < 32 => s.registers[k] = hex(value)?,

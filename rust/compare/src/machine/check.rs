@@ -1,6 +1,6 @@
 //! Runs a case on the subject and on the second program, each with memories of
 //! its own, and compares number, steps, state, every word of data memory and
-//! every byte of RAM after every run.
+//! every byte of RAM after every run; then the same by single steps.
 
 use super::case::{plain_state, plainly_answered, second_state, Case};
 use crate::subject::Subject;
@@ -25,6 +25,8 @@ pub struct Difference {
 pub struct Checked {
     /// The subject's answers, up to and with a differing run.
     pub answers: Vec<Ran>,
+    /// Comparisons of single steps.
+    pub steps: u64,
     pub difference: Option<Difference>,
 }
 
@@ -63,8 +65,8 @@ impl<T: Copy + PartialEq> Lent<T> {
     }
 }
 
-/// The memories, kept from case to case.
-pub struct Memories {
+/// The subject's memories, and the second program's.
+struct Both {
     program: Lent<u32>,
     data: Lent<u32>,
     ram: Lent<u8>,
@@ -72,9 +74,9 @@ pub struct Memories {
     second_ram: Vec<u8>,
 }
 
-impl Default for Memories {
-    fn default() -> Memories {
-        Memories {
+impl Default for Both {
+    fn default() -> Both {
+        Both {
             program: Lent::new(GUARD_WORD),
             data: Lent::new(GUARD_WORD),
             ram: Lent::new(GUARD_BYTE),
@@ -84,17 +86,7 @@ impl Default for Memories {
     }
 }
 
-impl Memories {
-    /// The subject's data memory after the last case.
-    pub fn subject_data(&self) -> &[u32] {
-        self.data.seen()
-    }
-
-    /// The subject's RAM after the last case.
-    pub fn subject_ram(&self) -> &[u8] {
-        self.ram.seen()
-    }
-
+impl Both {
     fn prepare(&mut self, case: &Case) {
         case.data_at_first(&mut self.second_data);
         case.ram_at_first(&mut self.second_ram);
@@ -104,61 +96,149 @@ impl Memories {
     }
 }
 
+/// The memories, kept from case to case: of its runs, and of its single steps.
+#[derive(Default)]
+pub struct Memories {
+    runs: Both,
+    steps: Both,
+}
+
+impl Memories {
+    /// The subject's data memory after the last case's runs.
+    pub fn subject_data(&self) -> &[u32] {
+        self.runs.data.seen()
+    }
+
+    /// The subject's RAM after the last case's runs.
+    pub fn subject_ram(&self) -> &[u8] {
+        self.runs.ram.seen()
+    }
+}
+
+/// What a run or a step answered: its number, the steps carried out, the state.
+struct Outcome<S> {
+    number: u32,
+    steps: u64,
+    state: S,
+}
+
 pub fn check(subject: Subject, case: &Case, memories: &mut Memories) -> Checked {
-    memories.prepare(case);
-    let name = subject.name();
+    let mut checked = check_runs(subject, case, &mut memories.runs);
+    if checked.difference.is_none() {
+        check_steps(subject, case, memories, &mut checked);
+    }
+    checked
+}
+
+fn check_runs(subject: Subject, case: &Case, both: &mut Both) -> Checked {
+    both.prepare(case);
     let mut answers = Vec::with_capacity(case.runs.len());
     let (mut state, mut expected_state) = (case.state, second_state(&case.state));
     for (run, &steps) in case.runs.iter().enumerate() {
-        let expected = second::machine::run(
-            &case.program,
-            &mut memories.second_data,
-            &mut memories.second_ram,
-            &expected_state,
-            steps,
-        );
-        let seen = subject.run(memories.program.seen(), memories.data.lent(), memories.ram.lent(), state, steps);
+        let (data, ram) = (&mut both.second_data, &mut both.second_ram);
+        let expected = second::machine::run(&case.program, data, ram, &expected_state, steps);
+        let seen = subject.run(both.program.seen(), both.data.lent(), both.ram.lent(), state, steps);
         answers.push(seen);
 
-        let mut text = String::new();
-        if (seen.number, seen.steps) != (expected.number, expected.steps) {
-            text += &format!(
-                "  {name}: number {}, steps {}\n  second: number {}, steps {}\n",
-                seen.number, seen.steps, expected.number, expected.steps
-            );
-        }
-        if second_state(&seen.state) != expected.state {
-            text += &states_in_words(name, &seen.state, &plain_state(&expected.state));
-        }
-        if seen.number != 0 && !seen.state.same_fields(&state) {
-            text += &format!("  {name} refused the state, and answers not as it was given: {:?}\n", seen.state);
-        }
-        if seen.number == 0 && !plainly_answered(&seen.state) {
-            text += &format!("  {name} answers a yes or no that is neither 0 nor 1: {:?}\n", seen.state);
-        }
-        if memories.data.seen() != memories.second_data {
-            text += &places_in_words("words of data memory", name, memories.data.seen(), &memories.second_data);
-        }
-        if memories.ram.seen() != memories.second_ram {
-            text += &places_in_words("bytes of RAM", name, memories.ram.seen(), &memories.second_ram);
-        }
-        if memories.program.seen() != case.program {
-            text += &format!("  {name} changed the program\n");
-        }
-        let guards = memories.program.guards_kept() && memories.data.guards_kept() && memories.ram.guards_kept();
-        if !guards {
-            text += &format!("  {name} changed something outside the memories it was lent\n");
-        }
+        let told = Outcome { number: seen.number, steps: seen.steps, state: seen.state };
+        let wanted = Outcome { number: expected.number, steps: expected.steps, state: expected.state };
+        let mut text = differences(subject.name(), case, both, &state, &told, &wanted, true);
         if !text.is_empty() {
             if let Some(&word) = case.program.get(expected_state.place as usize) {
                 text += &format!("  the run's first word is {word:08x}: {}\n", Told(word));
             }
-            return Checked { answers, difference: Some(Difference { run, text }) };
+            return Checked { answers, steps: 0, difference: Some(Difference { run, text }) };
         }
         state = seen.state;
         expected_state = expected.state;
     }
-    Checked { answers, difference: None }
+    Checked { answers, steps: 0, difference: None }
+}
+
+/// A RAM longer than this is compared after the last single step alone.
+const SHORT_RAM: usize = 65_536;
+
+/// The same by single steps, each from where the last stopped. Where they are as
+/// many as the runs allow, they must end as the runs did.
+fn check_steps(subject: Subject, case: &Case, memories: &mut Memories, checked: &mut Checked) {
+    let Memories { runs, steps: both } = memories;
+    both.prepare(case);
+    let allowed = case.runs.iter().fold(0u64, |sum, &steps| sum.saturating_add(steps));
+    let steps = allowed.clamp(1, case.singly.max(1));
+    let (mut state, mut expected_state) = (case.state, second_state(&case.state));
+    let (mut number, mut carried_out) = (0, 0);
+    for step in 1..=steps {
+        let (data, ram) = (&mut both.second_data, &mut both.second_ram);
+        let expected = second::machine::step(&case.program, data, ram, &expected_state);
+        let seen = subject.step(both.program.seen(), both.data.lent(), both.ram.lent(), state);
+        checked.steps += 1;
+
+        let told = Outcome { number: seen.number, steps: u64::from(seen.carried_out), state: seen.state };
+        let wanted = Outcome { number: expected.number, steps: u64::from(expected.carried_out), state: expected.state };
+        let whole = case.ram <= SHORT_RAM || step == steps;
+        let text = differences(subject.name(), case, both, &state, &told, &wanted, whole);
+        if !text.is_empty() {
+            let text = format!("  single step {step} of {steps}:\n{text}");
+            checked.difference = Some(Difference { run: 0, text });
+            return;
+        }
+        state = seen.state;
+        expected_state = expected.state;
+        number = seen.number;
+        carried_out += told.steps;
+    }
+    if steps == allowed {
+        checked.steps += 1;
+        let last = checked.answers[checked.answers.len() - 1];
+        let answers = last.number == number && last.state.same_fields(&state);
+        let counts = checked.answers.iter().map(|ran| ran.steps).sum::<u64>() == carried_out;
+        if !(answers && counts && runs.data.seen() == both.data.seen() && runs.ram.seen() == both.ram.seen()) {
+            let text = format!("  {steps} single steps, {carried_out} carried out, end otherwise than the runs\n");
+            checked.difference = Some(Difference { run: 0, text });
+        }
+    }
+}
+
+/// In words, all that differs after a call from the state given; the RAM only
+/// where it is to be compared whole.
+fn differences(
+    name: &str,
+    case: &Case,
+    both: &Both,
+    given: &State,
+    seen: &Outcome<State>,
+    expected: &Outcome<second::machine::State>,
+    whole: bool,
+) -> String {
+    let mut text = String::new();
+    if (seen.number, seen.steps) != (expected.number, expected.steps) {
+        text += &format!(
+            "  {name}: number {}, steps {}\n  second: number {}, steps {}\n",
+            seen.number, seen.steps, expected.number, expected.steps
+        );
+    }
+    if second_state(&seen.state) != expected.state {
+        text += &states_in_words(name, &seen.state, &plain_state(&expected.state));
+    }
+    if seen.number != 0 && !seen.state.same_fields(given) {
+        text += &format!("  {name} refused the state, and answers not as it was given: {:?}\n", seen.state);
+    }
+    if seen.number == 0 && !plainly_answered(&seen.state) {
+        text += &format!("  {name} answers a yes or no that is neither 0 nor 1: {:?}\n", seen.state);
+    }
+    if both.data.seen() != both.second_data {
+        text += &places_in_words("words of data memory", name, both.data.seen(), &both.second_data);
+    }
+    if whole && both.ram.seen() != both.second_ram {
+        text += &places_in_words("bytes of RAM", name, both.ram.seen(), &both.second_ram);
+    }
+    if both.program.seen() != case.program {
+        text += &format!("  {name} changed the program\n");
+    }
+    if !(both.program.guards_kept() && both.data.guards_kept() && both.ram.guards_kept()) {
+        text += &format!("  {name} changed something outside the memories it was lent\n");
+    }
+    text
 }
 
 fn states_in_words(name: &str, seen: &State, second: &State) -> String {

@@ -40,6 +40,7 @@ pub fn all(run: &mut Run) {
     run.group("stored depths", stored_depths);
     run.group("budgets", budgets);
     run.group("m steps, then n", splits);
+    run.group("single steps, and one run", single_steps);
     run.group("matrix times vector", samples::matrix_times_vector);
     run.group("matrix times matrix", samples::matrix_times_matrix);
     run.group("rasterization loop", samples::rasterization);
@@ -1171,6 +1172,18 @@ fn splits(run: &mut Run, rng: &mut Rng) {
         let memories = &run.machine_memories;
         let holds = sum == steps && last == state && memories.subject_data() == data && memories.subject_ram() == ram;
         run.holds(holds, || format!("{split}: ends otherwise than one run of {total} steps"));
+    }
+}
+
+/// A run is single steps in turn: as many as it allows, and where it halts some
+/// more. (Every case is also done by its first single steps.)
+fn single_steps(run: &mut Run, rng: &mut Rng) {
+    for turn in 0..1000 {
+        let whole = if turn % 4 == 0 { short_program(rng) } else { long::program(rng).case };
+        let total = if turn % 5 == 0 { rng.between(700, 4000) as u64 } else { rng.between(1, 700) as u64 };
+        let any = rng.next() % (total + 1);
+        let runs = if rng.chance(2) { vec![total] } else { vec![any, total - any] };
+        run.machine(&Case { runs, singly: total, ..whole });
     }
 }
 

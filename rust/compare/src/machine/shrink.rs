@@ -76,6 +76,7 @@ fn one_step(subject: Subject, case: &Case, memories: &mut Memories) -> Option<Ca
         bytes: ram.iter().copied().enumerate().filter(|(_, byte)| *byte != 0).collect(),
         state: plain_state(&state),
         runs: vec![1],
+        singly: 1,
         ..case.clone()
     };
     check(subject, &step, memories).difference.is_some().then_some(step)
@@ -85,7 +86,9 @@ fn one_step(subject: Subject, case: &Case, memories: &mut Memories) -> Option<Ca
 fn cost(case: &Case) -> u128 {
     let some = |yes: bool, weight: u32| u128::from(yes) << weight;
     let mut sum = (case.runs.len() as u128) << 100;
-    sum += case.runs.iter().map(|&steps| u128::from(steps.min(1 << 32))).sum::<u128>() << 62;
+    sum += (case.runs.iter().map(|&steps| u128::from(steps.min(1 << 32))).sum::<u128>()
+        + u128::from(case.singly.min(1 << 32)))
+        << 62;
     sum += case.program.iter().enumerate().map(|(at, &word)| some(word != idle(at), 45)).sum::<u128>();
     sum += (case.program.len() as u128) << 44;
     sum += case.data as u128 + (((case.words.len() + case.bytes.len()) as u128) << 36);
@@ -128,6 +131,10 @@ fn candidates(case: &Case) -> Vec<Case> {
             next.runs[place] = fewer;
             found.push(next);
         }
+    }
+
+    for fewer in [1, 2, case.singly / 2, case.singly.saturating_sub(1)] {
+        found.push(Case { singly: fewer.max(1), ..case.clone() });
     }
 
     // A shorter program, and steps taken out of it.
