@@ -2,8 +2,8 @@
 use border::LentState;
 use border::lent_state;
 use border::state_of;
-use machine::calls::machine_number;
 use machine::calls::run_accepted;
+use states::machine_number;
 ghost use Rattle.lends.specs.Lends.{RunsLent, lent, ran};
 
 // What a run answers: its number, the steps carried out, and the state.

@@ -53,7 +53,7 @@ pub extern "C" fn merikohin_depth_row(ram: &[u8], s: Screen, row: u32) -> RowPar
 pub extern "C" fn merikohin_fresh() -> LentState
     ensures { λ r. ⌜ Lends r ⌝ }
 {
-    lent_state(machine::calls::fresh())
+    lent_state(states::fresh())
 }
 
 #[no_mangle]

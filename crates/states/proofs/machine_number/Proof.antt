@@ -3,8 +3,8 @@ use mathlib.Core.Path.{sym}
 use borrow.Author.Tests.{lt-ltb, le-ltb, eq-eqb, ne-eqb}
 use Rattle.instructions.specs.Run.{machineNumber}
 use borrow.Author.Needs.{needs}
-use Rattle.machine.proofs.calls.machine_number.Statement.{statement}
-use Rattle.machine.proofs.calls.machine_number.Tie as tie
+use Rattle.states.proofs.machine_number.Statement.{statement}
+use Rattle.states.proofs.machine_number.Tie as tie
 
 returns : tie.Need-returns
 unfolding machineNumber

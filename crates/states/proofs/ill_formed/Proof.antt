@@ -5,8 +5,8 @@ use lib.Dec.{eqb}
 use Rattle.instructions.specs.Words.{register}
 use Rattle.instructions.specs.Run.{isHaltNumber, illFormed}
 use borrow.Author.Needs.{needs}
-use Rattle.machine.proofs.calls.ill_formed.Statement.{statement}
-use Rattle.machine.proofs.calls.ill_formed.Tie as tie
+use Rattle.states.proofs.ill_formed.Statement.{statement}
+use Rattle.states.proofs.ill_formed.Tie as tie
 
 sound-requires : tie.Need-sound-requires
 sound-requires c κs = search needs

@@ -1,8 +1,8 @@
 -- The fields are those of the definition.
 use mathlib.Core.Path.{refl}
 use Rattle.instructions.specs.Run.{freshState}
-use Rattle.machine.proofs.calls.fresh.Statement.{statement}
-use Rattle.machine.proofs.calls.fresh.Tie as tie
+use Rattle.states.proofs.fresh.Statement.{statement}
+use Rattle.states.proofs.fresh.Tie as tie
 
 returns : tie.Need-returns
 unfolding freshState
