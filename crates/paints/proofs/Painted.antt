@@ -102,7 +102,8 @@ pub clear-paints : (s : Screen) (m : List ℕ) → sound (length m) s ≡ true
     → (colour depth : ℕ)
     → PaintedWith s (everywhere colour) (everywhere depth) m (cleared s colour depth m)
 clear-paints s m h colour depth =
-    let p : Painted s (λ x y. true) (λ x y. pixel colour depth) m (cleared s colour depth m) = cleared-pointwise s m h (pixel colour depth) in
+    let p : Painted s (λ x y. true) (λ x y. pixel colour depth) m (cleared s colour depth m) =
+    cleared-pointwise s m h (pixel colour depth) in
     record {
       same-length = p .same-length;
       colours = record { holds = λ x y a b e. p .painted x y a b e .0; stays = λ x y a b e. p .stays x y a b e .0 };
