@@ -173,7 +173,7 @@ module _ {l : Line} {x wide : ℕ} {w₀ : Writing} (q : WordAsked l x wide w₀
           (storeHalf-comm (w .ram) depthHere newDepth colourHere newColour (apart-sym (colour-depth-apart facts on-screen on-screen)))
 
       pub turn-more : {w′ : Writing} {v′ : Tints}
-          → PixelDone (colourAt (l .screen) (x + k) (l .row)) (depthAt (l .screen) (x + k) (l .row)) v w w′
+          → PixelDone colourHere depthHere v w w′
           → v′ ≡ tintsMoved v (tintSteps (l .triangle))
           → Turn l x w₀ w′ (next (k + 1) v′ (on * 2 % 2 ^ 64))
       unfolding pixelDrawn

@@ -35,7 +35,7 @@ pub record Drawing : Type 0 where
 abbrev pub drawing : List ℕ → Counts → Drawing
 drawing ram counts = record { ram = ram; counts = counts }
 
--- the same of covered pixels alone, where only those written are counted
+-- a memory, and how many pixels were written so far
 pub record Writing : Type 0 where
   pub ram : List ℕ
   pub count : ℕ
