@@ -13,12 +13,13 @@ use Rattle.rules.specs.declared.Screen.{Screen}
 use Rattle.rules.specs.declared.Triangle.{Triangle}
 use Rattle.rules.specs.declared.Drawn.{Drawn}
 use Rattle.rules.specs.Folds.{choose}
+use Rattle.rules.specs.Sizes.{Pixel}
 use Rattle.rules.specs.Numbers.{screenNumber, rowNumber, verticesInRange}
 use Rattle.rules.specs.Calls.{accepted, Clears, Draws}
 use Rattle.order.specs.Lists.{none, call}
 use Rattle.order.proofs.Numbers.{triangle-number, first-row-number}
 use Rattle.order.proofs.Client.{clear-length, draw-length, draw-accepted, clear-then-list}
-use Rattle.client.specs.Pair.{pairNumber, CanPair, PairPainted}
+use Rattle.client.specs.Pair.{scene, pairNumber, CanPair, PairPainted}
 
 pub screen-accepts : (n : ℕ) (s : Screen) {k : ℕ} → k ≡ rowNumber n s 0 → k ≡ 0 → screenNumber n s ≡ 0
 screen-accepts n s e z = sym (first-row-number n s) ∙ sym e ∙ z
@@ -68,10 +69,11 @@ module _
     {m k l after : List ℕ}
     {s : Screen}
     {a b : Triangle}
-    {colour depth n : ℕ}
+    {p : Pixel}
+    {n : ℕ}
     {r r′ : Drawn}
     (can : CanPair (length m) s a b)
-    (c : Clears m s colour depth n k)
+    (c : Clears m s p n k)
     (d : Draws k s a r l)
     (d′ : Draws l s b r′ after)
   where
@@ -84,7 +86,7 @@ module _
     drawn : Accepts l
     drawn = ap (λ i. screenNumber i s) (draw-length d) ∙ cleared
 
-    pub pair-painted : PairPainted s a b colour depth m after
+    pub pair-painted : PairPainted s (scene p a b) m after
     pair-painted =
         clear-then-list c (c .answers ∙ can .screen)
         (call d (draw-accepted d cleared (can .first)) (call d′ (draw-accepted d′ drawn (can .second)) none))

@@ -4,13 +4,12 @@ use mathlib.Core.Path.{_≡_, sym, _∙_}
 use mathlib.Core.List.{List}
 use native.Mathlib.Decide.{ℕ-discrete}
 use Rattle.rules.specs.declared.Screen.{Screen}
-use Rattle.rules.specs.declared.Triangle.{Triangle}
 use Rattle.order.proofs.Pointwise.{painted-unique}
-use Rattle.client.specs.Pair.{Pairs}
+use Rattle.client.specs.Pair.{Scene, Pairs}
 
-pub pairs-unique : {m k l : List ℕ} {s : Screen} {a b : Triangle} {colour depth i j : ℕ}
-    → Pairs m s a b colour depth i k
-    → Pairs m s a b colour depth j l
+pub pairs-unique : {m k l : List ℕ} {s : Screen} {scene : Scene} {i j : ℕ}
+    → Pairs m s scene i k
+    → Pairs m s scene j l
     → (i ≡ j) × (k ≡ l)
 pairs-unique {k = k} {l} {i = i} {j} p q = (same, go (ℕ-discrete i 0))
   where

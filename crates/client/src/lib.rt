@@ -8,8 +8,9 @@ use screen::clear::clear;
 ghost use mathlib.Core.Path.{_≡_};
 ghost use mathlib.Core.Bool.{true};
 ghost use lib.ListN.{length};
+ghost use Rattle.rules.specs.Sizes.{pixel};
 ghost use Rattle.rules.specs.Numbers.{screenNumber, vertexInRange, verticesInRange};
-ghost use Rattle.client.specs.Pair.{CanPair, PairPainted, Pairs, pairNumber};
+ghost use Rattle.client.specs.Pair.{CanPair, PairPainted, Pairs, pairNumber, scene};
 
 fn vertex_in_range(v: i32) -> bool
     ensures { λ r. ⌜ r ≡ vertexInRange v ⌝ }
@@ -48,7 +49,7 @@ fn pair_number(ram: &[u8], s: Screen, a: Triangle, b: Triangle) -> u32
 // None of the three calls refuses.
 fn draw_pair(ram: &mut [u8], s: Screen, a: Triangle, b: Triangle, colour: u16, depth: u16)
     requires { ⌜ CanPair (length (now ram)) s a b ⌝ }
-    ensures { λ _. ⌜ PairPainted s a b colour depth (now (ram .entry)) (now (ram .exit)) ⌝ }
+    ensures { λ _. ⌜ PairPainted s (scene (pixel colour depth) a b) (now (ram .entry)) (now (ram .exit)) ⌝ }
 {
     clear(ram, s, colour, depth);
     draw(ram, s, a);
@@ -57,7 +58,7 @@ fn draw_pair(ram: &mut [u8], s: Screen, a: Triangle, b: Triangle, colour: u16, d
 
 // Judged first, so that a refusal changes nothing.
 pub fn pair(ram: &mut [u8], s: Screen, a: Triangle, b: Triangle, colour: u16, depth: u16) -> u32
-    ensures { λ r. ⌜ Pairs (now (ram .entry)) s a b colour depth r (now (ram .exit)) ⌝ }
+    ensures { λ r. ⌜ Pairs (now (ram .entry)) s (scene (pixel colour depth) a b) r (now (ram .exit)) ⌝ }
 {
     let number = pair_number(ram, s, a, b);
     if number != 0 {

@@ -15,7 +15,7 @@ use Rattle.rules.specs.Triangles.{coveredPixels, writtenPixels, drawn}
 use Rattle.rules.specs.Calls.{Draws}
 use Rattle.rules.proofs.Choices.{accepted-no, accepted-yes}
 use Rattle.rules.proofs.Refusals.{ScreenPasses, screen-passed, screen-refuses, others-follow, screen-number-passed}
-use Rattle.rows.specs.declared.Counts.{Counts}
+use Rattle.rows.specs.Lines.{Drawing}
 use Rattle.draw.specs.Frames.{FrameAsked, FrameDone}
 
 module _ (n : ℕ) (s : Screen) (t : Triangle) where
@@ -57,9 +57,9 @@ module _ (m : List ℕ) (s : Screen) (t : Triangle) where
         leaves = sym (accepted-no N (drawn t s m) m r);
       }
 
-  pub done-draws : triangleNumber (length m) s t ≡ 0 → (c : Counts) (after : List ℕ) → FrameDone m s t c after
-      → Draws m s t (record { number = 0; covered = c .covered; written = c .written }) after
-  done-draws e c after d =
+  pub done-draws : triangleNumber (length m) s t ≡ 0 → {after : Drawing} → FrameDone m s t after
+      → Draws m s t (record { number = 0; covered = after .counts .covered; written = after .counts .written }) (after .ram)
+  done-draws e d =
       record {
         answers = sym e;
         covers = d .covers ∙ sym (accepted-yes N (coveredPixels t s) 0 e);

@@ -11,7 +11,7 @@ use Rattle.rules.specs.Sizes.{sound}
 use Rattle.rules.specs.Numbers.{verticesInRange}
 use Rattle.rules.specs.Triangles.{sample, insideAll, drawn, coveredPixels, writtenPixels}
 use Rattle.cover.specs.declared.Span.{Span}
-use Rattle.rows.specs.declared.Counts.{Counts}
+use Rattle.rows.specs.Lines.{Drawing}
 
 -- what lies below the limit and outside the span lies before `first` or from `past` on
 pub record Clipped (first past limit : ℕ) (r : Span) : Type 0 where
@@ -30,7 +30,7 @@ pub record FrameAsked (n : ℕ) (s : Screen) (t : Triangle) : Type 0 where
   pub is-sound : sound n s ≡ true
   pub in-range : verticesInRange (t .vertices) ≡ true
 
-pub record FrameDone (m : List ℕ) (s : Screen) (t : Triangle) (answer : Counts) (after : List ℕ) : Type 0 where
-  pub covers : answer .covered ≡ coveredPixels t s
-  pub writes : answer .written ≡ writtenPixels t s m
-  pub leaves : after ≡ drawn t s m
+pub record FrameDone (m : List ℕ) (s : Screen) (t : Triangle) (after : Drawing) : Type 0 where
+  pub covers : after .counts .covered ≡ coveredPixels t s
+  pub writes : after .counts .written ≡ writtenPixels t s m
+  pub leaves : after .ram ≡ drawn t s m

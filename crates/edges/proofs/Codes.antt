@@ -1,4 +1,5 @@
--- An edge's differences and its value, as the machine computes them in 64 bits.
+-- An edge's differences and its value, as the machine computes them in 64 bits, and what it asks at each difference: three functions begin
+-- with both, and cite this.
 use Prim.Native.Nat.{ℕ, _≤_}
 use mathlib.Core.Path.{_≡_, sym, _∙_, ap, subst}
 use mathlib.Core.Bool.{true}
@@ -6,7 +7,7 @@ use native.Mathlib.Omega.{arith}
 use lib.IntN.{ℤ}
 use mir.Syntax.{w32, w64}
 use Rattle.ints.proofs.Bounds.{Within}
-use Rattle.ints.proofs.Machine.{got-in, got-lit, Code, known, cast, _⊟_, _⊠_}
+use Rattle.ints.proofs.Machine.{got-in, got-lit, Code, known, cast, _⊟_, _⊠_, Asks, need}
 use Rattle.rules.specs.Triangles.{Point, Edge, sampleOffset, sample, edgeValue}
 use Rattle.edges.specs.Edges.{edgeInRange}
 use Rattle.edges.proofs.Within.{EdgeWithin, value-within, read, read-edge}
@@ -46,6 +47,25 @@ module _ (e : Edge) (w : EdgeWithin e) where
 
     abbrev pub valueC : Code w64
     valueC = upC ⊠ dxC ⊟ leftC ⊠ dyC
+
+-- what is asked where both differences are taken: each number fits, and so does each difference
+pub record Differences (e : Edge) (w : EdgeWithin e) : Type 0 where
+  pub in-x1 : Asks (x1C e w)
+  pub in-y1 : Asks (y1C e w)
+  pub in-x2 : Asks (x2C e w)
+  pub in-y2 : Asks (y2C e w)
+  pub in-dx : Asks (dxC e w)
+  pub in-dy : Asks (dyC e w)
+
+pub differences : (e : Edge) (w : EdgeWithin e) → Differences e w
+differences e w = record {
+  in-x1 = need (x1C e w) tt;
+  in-y1 = need (y1C e w) tt;
+  in-x2 = need (x2C e w) tt;
+  in-y2 = need (y2C e w) tt;
+  in-dx = need (dxC e w) tt;
+  in-dy = need (dyC e w) tt;
+}
 
 -- an edge's value as `edge_value` answers it
 abbrev pub answeredC : (e : Edge) → EdgeWithin e → (x y : ℕ) → x ≤ 640 → y ≤ 512 → (z : ℤ) → z ≡ edgeValue e (sample x y) → Code w64

@@ -9,14 +9,14 @@ use rules::Drawn;
 use rules::Screen;
 use rules::Triangle;
 ghost use lib.ListN.{length};
-ghost use Rattle.rules.specs.Sizes.{colourAt, depthAt};
+ghost use Rattle.rules.specs.Sizes.{colourAt, depthAt, pixel};
 ghost use Rattle.rules.specs.Calls.{Clears, Draws};
 ghost use Rattle.reader.specs.Rows.{Checks, Locates};
 ghost use Rattle.lends.specs.Lends.{Lends, RunsLent, StepsLent, lent, ran, stepped};
 
 #[no_mangle]
 pub extern "C" fn merikohin_clear(ram: &mut [u8], s: Screen, colour: u16, depth: u16) -> u32
-    ensures { λ r. ⌜ Clears (now (ram .entry)) s colour depth r (now (ram .exit)) ⌝ }
+    ensures { λ r. ⌜ Clears (now (ram .entry)) s (pixel colour depth) r (now (ram .exit)) ⌝ }
 {
     screen::clear::clear(ram, s, colour, depth)
 }

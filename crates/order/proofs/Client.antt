@@ -11,8 +11,8 @@ use Rattle.rules.specs.declared.Screen.{Screen}
 use Rattle.rules.specs.declared.Triangle.{Triangle}
 use Rattle.rules.specs.declared.Drawn.{Drawn}
 use Rattle.rules.specs.Folds.{choose}
-use Rattle.rules.specs.Sizes.{sound}
-use Rattle.rules.specs.Triangles.{written, triangleColour, triangleDepth, drawn}
+use Rattle.rules.specs.Sizes.{sound, Pixel}
+use Rattle.rules.specs.Triangles.{written, trianglePixel, drawn}
 use Rattle.rules.specs.Numbers.{verticesInRange, screenNumber, triangleNumber}
 use Rattle.rules.specs.Calls.{Clears, Draws, accepted, cleared}
 use Rattle.rules.proofs.Choices.{accepted-no}
@@ -27,10 +27,10 @@ module _ {m after : List ℕ} {s : Screen} {t : Triangle} {r : Drawn} (d : Draws
   pub draw-refused : r .number ≢ 0 → after ≡ m
   draw-refused h = d .leaves ∙ accepted-no (triangleNumber (length m) s t) (drawn t s m) m (λ e. h (d .answers ∙ e))
 
-  pub draw-paints : r .number ≡ 0 → Painted s (written t s m) (triangleColour t) (triangleDepth t) m after
+  pub draw-paints : r .number ≡ 0 → Painted s (written t s m) (trianglePixel t) m after
   draw-paints e =
       let z : triangleNumber (length m) s t ≡ 0 = sym (d .answers) ∙ e in
-      subst (Painted s (written t s m) (triangleColour t) (triangleDepth t) m) (sym (accepted-drawn d z))
+      subst (Painted s (written t s m) (trianglePixel t) m) (sym (accepted-drawn d z))
       (drawn-pointwise s m (accepted-sound (length m) s t z) t)
 
   pub draw-sound : r .number ≡ 0 → sound (length after) s ≡ true
@@ -49,16 +49,16 @@ module _ {m after : List ℕ} {s : Screen} {t : Triangle} {r : Drawn} (d : Draws
   pub draw-accepted : screenNumber (length m) s ≡ 0 → verticesInRange (t .vertices) ≡ true → r .number ≡ 0
   draw-accepted z v = d .answers ∙ triangle-number (length m) s t z ∙ ap (λ b. choose b 0 6) v
 
-module _ {m after : List ℕ} {s : Screen} {colour depth n : ℕ} (d : Clears m s colour depth n after) where
+module _ {m after : List ℕ} {s : Screen} {p : Pixel} {n : ℕ} (d : Clears m s p n after) where
   pub clear-refused : n ≢ 0 → after ≡ m
-  clear-refused h = d .leaves ∙ accepted-no (screenNumber (length m) s) (cleared s colour depth m) m (λ e. h (d .answers ∙ e))
+  clear-refused h = d .leaves ∙ accepted-no (screenNumber (length m) s) (cleared s (p .colour) (p .depth) m) m (λ e. h (d .answers ∙ e))
 
-  pub clear-paints : n ≡ 0 → Painted s (λ x y. true) (λ x y. colour) (λ x y. depth) m after
+  pub clear-paints : n ≡ 0 → Painted s (λ x y. true) (λ x y. p) m after
   clear-paints e =
       let z : screenNumber (length m) s ≡ 0 = sym (d .answers) ∙ e in
-      subst (Painted s (λ x y. true) (λ x y. colour) (λ x y. depth) m)
-      (sym (d .leaves ∙ ap (λ k. accepted k (cleared s colour depth m) m) z))
-      (cleared-pointwise s m (screen-accepted (length m) s .0 z .1) colour depth)
+      subst (Painted s (λ x y. true) (λ x y. p) m)
+      (sym (d .leaves ∙ ap (λ k. accepted k (cleared s (p .colour) (p .depth) m) m) z))
+      (cleared-pointwise s m (screen-accepted (length m) s .0 z .1) p)
 
   pub clear-keeps-sound : n ≡ 0 → sound (length after) s ≡ true
   clear-keeps-sound e =
@@ -73,13 +73,10 @@ module _ {m after : List ℕ} {s : Screen} {colour depth n : ℕ} (d : Clears m 
       go (no h) = ap length (clear-refused h)
 
 -- a clear, then a list of triangles: what every pixel holds, byte by byte, and that every other byte is as it was
-pub clear-then-list : {m k after : List ℕ} {s : Screen} {colour depth n : ℕ} {list : List Triangle}
-    → Clears m s colour depth n k
+pub clear-then-list : {m k after : List ℕ} {s : Screen} {p : Pixel} {n : ℕ} {list : List Triangle}
+    → Clears m s p n k
     → n ≡ 0
     → DrawsAll s list k after
-    → Painted s (λ x y. true)
-    (λ x y. afterList list s x y (record { colour = colour; depth = depth }) .colour)
-    (λ x y. afterList list s x y (record { colour = colour; depth = depth }) .depth)
-    m after
+    → Painted s (λ x y. true) (λ x y. afterList list s x y p) m after
 clear-then-list {m} {k} {s = s} {list = list} c e d =
-    subst (Painted s (λ x y. true) _ _ m) (sym (calls-drawn d)) (list-paints s k (clear-keeps-sound c e) list (clear-paints c e))
+    subst (Painted s (λ x y. true) _ m) (sym (calls-drawn d)) (list-paints s k (clear-keeps-sound c e) list (clear-paints c e))

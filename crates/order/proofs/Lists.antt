@@ -10,8 +10,8 @@ use Rattle.rules.specs.declared.Screen.{Screen}
 use Rattle.rules.specs.declared.Triangle.{Triangle}
 use Rattle.rules.specs.Folds.{choose}
 use Rattle.ram.specs.Ram.{loadHalf}
-use Rattle.rules.specs.Sizes.{width, height, sound}
-use Rattle.rules.specs.Triangles.{covered, triangleColour, triangleDepth}
+use Rattle.rules.specs.Sizes.{width, height, sound, Pixel, pixel}
+use Rattle.rules.specs.Triangles.{covered, triangleDepth, trianglePixel}
 use Rattle.rules.specs.Lists.{drawnAll}
 use Rattle.ram.proofs.Halves.{joined, joined-split}
 use Rattle.rules.proofs.Pixels.{On, sound-facts, Cell, cell, painted}
@@ -19,7 +19,7 @@ use Rattle.rules.proofs.Memory.{Touched, Rows, same-memory, on-rows}
 use Rattle.rules.proofs.Drawing.{merged}
 use Rattle.rules.proofs.Lists.{mergedAll, touched-drawnAll}
 use Rattle.order.specs.Pointwise.{Elsewhere, Painted}
-use Rattle.order.specs.Lists.{Pixel, pixelAt, afterTriangle, afterList, DrawsAll, none, call}
+use Rattle.order.specs.Lists.{pixelAt, afterTriangle, afterList, DrawsAll, none, call}
 use Rattle.order.proofs.Pointwise.{outside, elsewhere, from-cells, to-cells}
 use Rattle.order.proofs.Order.{accepted-drawn}
 pub use Rattle.rules.proofs.Lists.{drawnAll-append, length-drawnAll}
@@ -27,7 +27,7 @@ pub use Rattle.rules.proofs.Lists.{drawnAll-append, length-drawnAll}
 -- a cell's colour and depth, and the four bytes of a pixel
 
 abbrev pixelOf : Cell → Pixel
-pixelOf c = record { colour = joined (c .colour); depth = joined (c .depth) }
+pixelOf c = pixel (joined (c .colour)) (joined (c .depth))
 
 abbrev cellOf : Pixel → Cell
 cellOf p = painted (p .colour) (p .depth)
@@ -41,9 +41,9 @@ module _ (s : Screen) (x y : ℕ) where
   pixel-merged t c = go (covered t s x y && leb (triangleDepth t x y) (joined (c .depth)))
     where
       go : (b : Bool)
-          → pixelOf (choose b (painted (triangleColour t x y) (triangleDepth t x y)) c)
-          ≡ choose b (record { colour = triangleColour t x y; depth = triangleDepth t x y }) (pixelOf c)
-      go true = pixel-cell (record { colour = triangleColour t x y; depth = triangleDepth t x y })
+          → pixelOf (choose b (cellOf (trianglePixel t x y)) c)
+          ≡ choose b (trianglePixel t x y) (pixelOf c)
+      go true = pixel-cell (trianglePixel t x y)
       go false = refl
 
   pixel-mergedAll : (list : List Triangle) (c : Cell) → pixelOf (mergedAll list s x y c) ≡ afterList list s x y (pixelOf c)
@@ -54,13 +54,13 @@ module _ (s : Screen) (x y : ℕ) where
   cell-merged : (t : Triangle) (p : Pixel) → merged t s x y (cellOf p) ≡ cellOf (afterTriangle t s x y p)
   unfolding merged afterTriangle
   cell-merged t p =
-      ap (λ d. choose (covered t s x y && leb (triangleDepth t x y) d) (painted (triangleColour t x y) (triangleDepth t x y)) (cellOf p))
+      ap (λ d. choose (covered t s x y && leb (triangleDepth t x y) d) (cellOf (trianglePixel t x y)) (cellOf p))
       (joined-split (p .depth))
       ∙ go (covered t s x y && leb (triangleDepth t x y) (p .depth))
     where
       go : (b : Bool)
-          → choose b (painted (triangleColour t x y) (triangleDepth t x y)) (cellOf p)
-          ≡ cellOf (choose b (record { colour = triangleColour t x y; depth = triangleDepth t x y }) p)
+          → choose b (cellOf (trianglePixel t x y)) (cellOf p)
+          ≡ cellOf (choose b (trianglePixel t x y) p)
       go true = refl
       go false = refl
 
@@ -103,19 +103,16 @@ module _ (s : Screen) (m : List ℕ) (h : sound (length m) s ≡ true) where
       (λ i o. touched a .beyond o ∙ sym (touched b .beyond o))
 
   -- drawn where each pixel was painted before, byte by byte
-  pub list-paints : (list : List Triangle) {k : List ℕ} {colour depth : ℕ → ℕ → ℕ}
-      → Painted s (λ x y. true) colour depth k m
-      → Painted s (λ x y. true)
-      (λ x y. afterList list s x y (record { colour = colour x y; depth = depth x y }) .colour)
-      (λ x y. afterList list s x y (record { colour = colour x y; depth = depth x y }) .depth)
-      k (drawnAll list s m)
-  list-paints list {k} {colour} {depth} p =
-      from-cells s (λ x y. true) _ _ k (drawnAll list s m)
+  pub list-paints : (list : List Triangle) {k : List ℕ} {new : ℕ → ℕ → Pixel}
+      → Painted s (λ x y. true) new k m
+      → Painted s (λ x y. true) (λ x y. afterList list s x y (new x y)) k (drawnAll list s m)
+  list-paints list {k} {new} p =
+      from-cells s (λ x y. true) _ k (drawnAll list s m)
       (length-drawnAll list s m ∙ p .same-length)
       (λ x y o.
       list-cell list x y o
-      ∙ ap (mergedAll list s x y) (to-cells s (λ x y. true) colour depth k p x y o)
-      ∙ cell-mergedAll s x y list (record { colour = colour x y; depth = depth x y }))
+      ∙ ap (mergedAll list s x y) (to-cells s (λ x y. true) new k p x y o)
+      ∙ cell-mergedAll s x y list (new x y))
       (λ b o. touched list .beyond o ∙ p .elsewhere b (elsewhere o))
 
 -- by calls

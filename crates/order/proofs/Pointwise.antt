@@ -10,8 +10,8 @@ use Rattle.rules.specs.declared.Screen.{Screen}
 use Rattle.rules.specs.declared.Triangle.{Triangle}
 use Rattle.rules.specs.Folds.{choose}
 use Rattle.ram.specs.Ram.{loadHalf}
-use Rattle.rules.specs.Sizes.{width, height, sound, colourAt, depthAt}
-use Rattle.rules.specs.Triangles.{written, triangleColour, triangleDepth, drawn}
+use Rattle.rules.specs.Sizes.{width, height, sound, colourAt, depthAt, Pixel}
+use Rattle.rules.specs.Triangles.{written, trianglePixel, drawn}
 use Rattle.rules.specs.Calls.{cleared}
 use Rattle.ram.proofs.Halves.{joined, joined-split}
 use Rattle.rules.proofs.Pixels.{On, ByteOf, Outside, sound-facts, Cell, cell, painted}
@@ -54,50 +54,50 @@ module _ (s : Screen) (m : List ℕ) (x y : ℕ) (c : Cell) where
     depth = record { high = r .1 .first i; low = r .1 .second i };
   }
 
-module _ (s : Screen) (picked : ℕ → ℕ → Bool) (colour depth : ℕ → ℕ → ℕ) (m : List ℕ) where
-  abbrev new : ℕ → ℕ → Bool → Cell
-  new x y b = choose b (painted (colour x y) (depth x y)) (cell s m x y)
+module _ (s : Screen) (picked : ℕ → ℕ → Bool) (new : ℕ → ℕ → Pixel) (m : List ℕ) where
+  abbrev then : ℕ → ℕ → Bool → Cell
+  then x y b = choose b (painted (new x y .colour) (new x y .depth)) (cell s m x y)
 
   pub from-cells : (after : List ℕ) → length after ≡ length m
-      → ((x y : ℕ) → On s x y → cell s after x y ≡ new x y (picked x y))
+      → ((x y : ℕ) → On s x y → cell s after x y ≡ then x y (picked x y))
       → ((b : ℕ) → Outside s b → getD after b 0 ≡ getD m b 0)
-      → Painted s picked colour depth m after
+      → Painted s picked new m after
   from-cells after l c o = record {
     same-length = l;
-    painted = λ x y h v e. shows s after x y (new x y true) (c x y (record { across = h; down = v }) ∙ ap (new x y) e);
-    stays = λ x y h v e. shows s after x y (new x y false) (c x y (record { across = h; down = v }) ∙ ap (new x y) e);
+    painted = λ x y h v e. shows s after x y (then x y true) (c x y (record { across = h; down = v }) ∙ ap (then x y) e);
+    stays = λ x y h v e. shows s after x y (then x y false) (c x y (record { across = h; down = v }) ∙ ap (then x y) e);
     elsewhere = λ b e. o b (outside e);
   }
 
   pub to-cells : {after : List ℕ}
-      → Painted s picked colour depth m after
+      → Painted s picked new m after
       → (x y : ℕ)
       → On s x y
-      → cell s after x y ≡ new x y (picked x y)
+      → cell s after x y ≡ then x y (picked x y)
   to-cells {after} p x y q = go (picked x y) refl
     where
-      go : (b : Bool) → picked x y ≡ b → cell s after x y ≡ new x y b
-      go true e = shown s after x y (new x y true) (p .painted x y (q .across) (q .down) e)
-      go false e = shown s after x y (new x y false) (p .stays x y (q .across) (q .down) e)
+      go : (b : Bool) → picked x y ≡ b → cell s after x y ≡ then x y b
+      go true e = shown s after x y (then x y true) (p .painted x y (q .across) (q .down) e)
+      go false e = shown s after x y (then x y false) (p .stays x y (q .across) (q .down) e)
 
 -- no other memory has the same reading
-pub painted-unique : {s : Screen} {picked : ℕ → ℕ → Bool} {colour depth : ℕ → ℕ → ℕ} {m k l : List ℕ}
-    → Painted s picked colour depth m k
-    → Painted s picked colour depth m l
+pub painted-unique : {s : Screen} {picked : ℕ → ℕ → Bool} {new : ℕ → ℕ → Pixel} {m k l : List ℕ}
+    → Painted s picked new m k
+    → Painted s picked new m l
     → k ≡ l
-painted-unique {s} {picked} {colour} {depth} {m} {k} {l} p q =
+painted-unique {s} {picked} {new} {m} {k} {l} p q =
     same-memory s k l
     (p .same-length ∙ sym (q .same-length))
-    (λ x y o. to-cells s picked colour depth m p x y o ∙ sym (to-cells s picked colour depth m q x y o))
+    (λ x y o. to-cells s picked new m p x y o ∙ sym (to-cells s picked new m q x y o))
     (λ b o. p .elsewhere b (elsewhere o) ∙ sym (q .elsewhere b (elsewhere o)))
 
 -- in half-words
 module _
     {s : Screen}
     {picked : ℕ → ℕ → Bool}
-    {colour depth : ℕ → ℕ → ℕ}
+    {new : ℕ → ℕ → Pixel}
     {m after : List ℕ}
-    (p : Painted s picked colour depth m after)
+    (p : Painted s picked new m after)
     (x y : ℕ)
     (a : x < width (s .size))
     (b : y < height (s .size))
@@ -105,44 +105,43 @@ module _
     on : On s x y
     on = record { across = a; down = b }
 
-    pub painted-colour : loadHalf after (colourAt s x y) ≡ choose (picked x y) (colour x y) (loadHalf m (colourAt s x y))
+    pub painted-colour : loadHalf after (colourAt s x y) ≡ choose (picked x y) (new x y .colour) (loadHalf m (colourAt s x y))
     unfolding loadHalf
-    painted-colour = ap (λ c. joined (c .colour)) (to-cells s picked colour depth m p x y on) ∙ go (picked x y)
+    painted-colour = ap (λ c. joined (c .colour)) (to-cells s picked new m p x y on) ∙ go (picked x y)
       where
-        go : (t : Bool) → joined (new s picked colour depth m x y t .colour) ≡ choose t (colour x y) (loadHalf m (colourAt s x y))
-        go true = joined-split (colour x y)
+        go : (t : Bool) → joined (then s picked new m x y t .colour) ≡ choose t (new x y .colour) (loadHalf m (colourAt s x y))
+        go true = joined-split (new x y .colour)
         go false = refl
 
-    pub painted-depth : loadHalf after (depthAt s x y) ≡ choose (picked x y) (depth x y) (loadHalf m (depthAt s x y))
+    pub painted-depth : loadHalf after (depthAt s x y) ≡ choose (picked x y) (new x y .depth) (loadHalf m (depthAt s x y))
     unfolding loadHalf
-    painted-depth = ap (λ c. joined (c .depth)) (to-cells s picked colour depth m p x y on) ∙ go (picked x y)
+    painted-depth = ap (λ c. joined (c .depth)) (to-cells s picked new m p x y on) ∙ go (picked x y)
       where
-        go : (t : Bool) → joined (new s picked colour depth m x y t .depth) ≡ choose t (depth x y) (loadHalf m (depthAt s x y))
-        go true = joined-split (depth x y)
+        go : (t : Bool) → joined (then s picked new m x y t .depth) ≡ choose t (new x y .depth) (loadHalf m (depthAt s x y))
+        go true = joined-split (new x y .depth)
         go false = refl
 
 module _ (s : Screen) (m : List ℕ) (h : sound (length m) s ≡ true) where
-  pub drawn-pointwise : (t : Triangle) → Painted s (written t s m) (triangleColour t) (triangleDepth t) m (drawn t s m)
+  pub drawn-pointwise : (t : Triangle) → Painted s (written t s m) (trianglePixel t) m (drawn t s m)
   drawn-pointwise t =
       let d = touched-drawn (sound-facts h) t m refl in
-      from-cells s (written t s m) (triangleColour t) (triangleDepth t) m (drawn t s m) (d .same-length)
+      from-cells s (written t s m) (trianglePixel t) m (drawn t s m) (d .same-length)
       (λ x y p. d .changed p (on-rows p) ∙ merged-cell t s m x y)
       (λ b o. d .beyond o)
 
-  pub cleared-pointwise : (colour depth : ℕ)
-      → Painted s (λ x y. true) (λ x y. colour) (λ x y. depth) m (cleared s colour depth m)
-  cleared-pointwise colour depth =
-      let d = touched-cleared (sound-facts h) colour depth m refl in
-      from-cells s (λ x y. true) (λ x y. colour) (λ x y. depth) m (cleared s colour depth m) (d .same-length)
+  pub cleared-pointwise : (p : Pixel) → Painted s (λ x y. true) (λ x y. p) m (cleared s (p .colour) (p .depth) m)
+  cleared-pointwise p =
+      let d = touched-cleared (sound-facts h) (p .colour) (p .depth) m refl in
+      from-cells s (λ x y. true) (λ x y. p) m (cleared s (p .colour) (p .depth) m) (d .same-length)
       (λ x y p. d .changed p (on-rows p))
       (λ b o. d .beyond o)
 
   pub drawn-unique : (t : Triangle) (after : List ℕ)
-      → Painted s (written t s m) (triangleColour t) (triangleDepth t) m after
+      → Painted s (written t s m) (trianglePixel t) m after
       → after ≡ drawn t s m
   drawn-unique t after p = painted-unique p (drawn-pointwise t)
 
-  pub cleared-unique : (colour depth : ℕ) (after : List ℕ)
-      → Painted s (λ x y. true) (λ x y. colour) (λ x y. depth) m after
-      → after ≡ cleared s colour depth m
-  cleared-unique colour depth after p = painted-unique p (cleared-pointwise colour depth)
+  pub cleared-unique : (p : Pixel) (after : List ℕ)
+      → Painted s (λ x y. true) (λ x y. p) m after
+      → after ≡ cleared s (p .colour) (p .depth) m
+  cleared-unique p after q = painted-unique q (cleared-pointwise p)

@@ -5,13 +5,14 @@ use mathlib.Core.List.{List}
 use Rattle.rules.specs.declared.Screen.{Screen}
 use Rattle.rules.specs.declared.Triangle.{Triangle}
 use Rattle.rules.specs.declared.Drawn.{Drawn}
+use Rattle.rules.specs.Sizes.{Pixel}
 use Rattle.rules.specs.Calls.{Clears, Draws}
 
-pub clears-unique : {m k k′ : List ℕ} {s : Screen} {colour depth n n′ : ℕ}
-    → Clears m s colour depth n k
-    → Clears m s colour depth n′ k′
+pub clears-unique : {m k k′ : List ℕ} {s : Screen} {p : Pixel} {n n′ : ℕ}
+    → Clears m s p n k
+    → Clears m s p n′ k′
     → (n ≡ n′) × (k ≡ k′)
-clears-unique p q = (p .answers ∙ sym (q .answers), p .leaves ∙ sym (q .leaves))
+clears-unique c d = (c .answers ∙ sym (d .answers), c .leaves ∙ sym (d .leaves))
 
 pub draws-unique : {m k k′ : List ℕ} {s : Screen} {t : Triangle} {r r′ : Drawn}
     → Draws m s t r k

@@ -9,24 +9,18 @@ use Rattle.rules.specs.declared.Triangle.{Triangle}
 use Rattle.rules.specs.declared.Drawn.{Drawn}
 use Rattle.rules.specs.Folds.{choose}
 use Rattle.ram.specs.Ram.{loadHalf}
-use Rattle.rules.specs.Sizes.{colourAt, depthAt}
-use Rattle.rules.specs.Triangles.{covered, triangleColour, triangleDepth}
+use Rattle.rules.specs.Sizes.{colourAt, depthAt, Pixel, pixel}
+use Rattle.rules.specs.Triangles.{covered, triangleDepth, trianglePixel}
 use Rattle.rules.specs.Calls.{Draws}
-
-pub record Pixel : Type 0 where
-  pub colour : ℕ
-  pub depth : ℕ
 
 -- the pixel as it stands in the memory
 abbrev pub pixelAt : List ℕ → Screen → ℕ → ℕ → Pixel
-pixelAt m s x y = record { colour = loadHalf m (colourAt s x y); depth = loadHalf m (depthAt s x y) }
+pixelAt m s x y = pixel (loadHalf m (colourAt s x y)) (loadHalf m (depthAt s x y))
 
 -- what a triangle makes of it: "A covered pixel is written, colour and depth, if its depth is at most the stored depth."
 unfoldable pub afterTriangle : Triangle → Screen → ℕ → ℕ → Pixel → Pixel
 afterTriangle t s x y p =
-    choose (covered t s x y && leb (triangleDepth t x y) (p .depth))
-    (record { colour = triangleColour t x y; depth = triangleDepth t x y })
-    p
+    choose (covered t s x y && leb (triangleDepth t x y) (p .depth)) (trianglePixel t x y) p
 
 -- what each of the list in turn makes of it
 unfoldable pub afterList : List Triangle → Screen → ℕ → ℕ → Pixel → Pixel

@@ -6,7 +6,7 @@ use mathlib.Core.Bool.{Bool, true, false}
 use mathlib.Core.List.{List}
 use lib.ListN.{length, getD}
 use Rattle.rules.specs.declared.Screen.{Screen}
-use Rattle.rules.specs.Sizes.{width, height, colourAt, depthAt}
+use Rattle.rules.specs.Sizes.{width, height, colourAt, depthAt, Pixel}
 
 -- the two bytes at address a
 pub record Reads (m : List ℕ) (a high low : ℕ) : Type 0 where
@@ -26,14 +26,14 @@ pub record Elsewhere (s : Screen) (b : ℕ) : Type 0 where
   pub no-colour : (x y : ℕ) → x < width (s .size) → y < height (s .size) → (b ≢ colourAt s x y) × (b ≢ colourAt s x y + 1)
   pub no-depth : (x y : ℕ) → x < width (s .size) → y < height (s .size) → (b ≢ depthAt s x y) × (b ≢ depthAt s x y + 1)
 
--- `after` is m, with the colour and the depth of those pixels that the test picks
-pub record Painted (s : Screen) (picked : ℕ → ℕ → Bool) (colour depth : ℕ → ℕ → ℕ) (m after : List ℕ) : Type 0 where
+-- `after` is m, where those pixels that the test picks hold what `new` says
+pub record Painted (s : Screen) (picked : ℕ → ℕ → Bool) (new : ℕ → ℕ → Pixel) (m after : List ℕ) : Type 0 where
   pub same-length : length after ≡ length m
   pub painted : (x y : ℕ)
       → x < width (s .size)
       → y < height (s .size)
       → picked x y ≡ true
-      → Holds after (colourAt s x y) (colour x y) × Holds after (depthAt s x y) (depth x y)
+      → Holds after (colourAt s x y) (new x y .colour) × Holds after (depthAt s x y) (new x y .depth)
   pub stays : (x y : ℕ)
       → x < width (s .size)
       → y < height (s .size)

@@ -7,7 +7,7 @@ use lib.ListN.{length, getD}
 use Rattle.rules.specs.declared.Screen.{Screen}
 use Rattle.rules.specs.Folds.{choose}
 use Rattle.ram.specs.Ram.{loadHalf}
-use Rattle.rules.specs.Sizes.{width, height, sound, colourAt, depthAt}
+use Rattle.rules.specs.Sizes.{width, height, sound, colourAt, depthAt, pixel}
 use Rattle.rules.specs.Calls.{cleared}
 use Rattle.ram.proofs.Halves.{Bytes, split, joined, joined-split, bytes}
 use Rattle.rules.proofs.Pixels.{On, Outside, Cell, cell}
@@ -102,7 +102,8 @@ pub clear-paints : (s : Screen) (m : List ℕ) → sound (length m) s ≡ true
     → (colour depth : ℕ)
     → PaintedWith s (everywhere colour) (everywhere depth) m (cleared s colour depth m)
 clear-paints s m h colour depth =
-    let p : Painted s (λ x y. true) (λ x y. colour) (λ x y. depth) m (cleared s colour depth m) = cleared-pointwise s m h colour depth in
+    let p : Painted s (λ x y. true) (λ x y. pixel colour depth) m (cleared s colour depth m) =
+    cleared-pointwise s m h (pixel colour depth) in
     record {
       same-length = p .same-length;
       colours = record { holds = λ x y a b e. p .painted x y a b e .0; stays = λ x y a b e. p .stays x y a b e .0 };

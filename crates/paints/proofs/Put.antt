@@ -16,7 +16,7 @@ use Rattle.rules.specs.Sizes.{sound, colourAt, depthAt, putPixel}
 use Rattle.ram.proofs.Halves.{Bytes, split, bytes, length-storeHalf, byte-stored-other, bytes-stored-same, bytes-stored-other}
 use Rattle.rules.proofs.Pixels.{On, Other, Sound, and-l, and-r, sound-facts, other?, colour-fits, colour-apart, colour-depth-apart, Cell}
 use Rattle.rules.proofs.Pixels.{cell}
-use Rattle.rules.proofs.Memory.{Touched, Below, Only, touched-folds, touched-same, touched-put}
+use Rattle.rules.proofs.Memory.{PixelSet, Touched, Below, Only, touched-folds, touched-same, touched-put}
 use Rattle.instructions.specs.declared.Tree.{Tree}
 use Rattle.instructions.specs.Tree.{leafColour, leafDepth, refusesPlace, isPut, leafPut, treePut}
 use Rattle.instructions.proofs.Standing.{leaf-on}
@@ -62,7 +62,7 @@ leafCell t i c =
     c
 
 -- the pixels of leaf i
-abbrev LeafPixel : Tree → ℕ → ℕ → ℕ → Type 0
+abbrev LeafPixel : Tree → ℕ → PixelSet
 LeafPixel t i = Only (t .row) (leafColumn t i)
 
 module _ {n : ℕ} {s : Screen} (k : Sound n s) (t : Tree) (p : refusesPlace s (t .column) (t .row) ≡ false) where

@@ -9,48 +9,49 @@ use native.Mathlib.Omega.{arith}
 use lib.Dec.{ltb}
 use lib.ListN.{length}
 use borrow.Author.Tests.{ltb-true}
-use Rattle.rules.specs.declared.Screen.{Screen}
-use Rattle.rules.specs.declared.Triangle.{Triangle}
 use Rattle.rules.specs.Folds.{upto}
 use Rattle.rules.specs.Sizes.{width, height}
 use Rattle.rules.specs.Triangles.{sample, insideAll, onScreen, covered, written, pixelDrawn}
 use Rattle.rules.proofs.Folds.{upto-keeps}
 use Rattle.rules.proofs.Pixels.{Sound, On, and-l, and-r}
 use Rattle.rules.proofs.Drawing.{length-pixel, written-pixel}
+use Rattle.rows.specs.Lines.{Line, coveredIn, writtenIn, drawnIn}
 
-module _ (t : Triangle) (s : Screen) where
-  pub covered-on : {x y : ℕ} → covered t s x y ≡ true → On s x y
+module _ (l : Line) where
+  pub covered-on : {x : ℕ} → coveredIn l x ≡ true → On (l .screen) x (l .row)
   unfolding covered
-  covered-on {x} {y} h =
-      let o = and-l (onScreen s x y) (insideAll (t .vertices) (sample x y)) h in
+  covered-on {x} h =
+      let s = l .screen in
+      let y = l .row in
+      let o = and-l (onScreen s x y) (insideAll (l .triangle .vertices) (sample x y)) h in
       record {
         across = ltb-true x (width (s .size)) (and-l _ (ltb y (height (s .size))) o);
         down = ltb-true y (height (s .size)) (and-r (ltb x (width (s .size))) _ o);
       }
 
-  pub not-written : (m : List ℕ) (x y : ℕ) → covered t s x y ≡ false → written t s m x y ≡ false
+  pub not-written : (m : List ℕ) (x : ℕ) → coveredIn l x ≡ false → writtenIn l m x ≡ false
   unfolding written
-  not-written m x y h = rw h
+  not-written m x h = rw h
 
-  pub pixel-still : (y x : ℕ) (m : List ℕ) → covered t s x y ≡ false → pixelDrawn t s y x m ≡ m
+  pub pixel-still : (x : ℕ) (m : List ℕ) → coveredIn l x ≡ false → drawnIn l x m ≡ m
   unfolding pixelDrawn
-  pixel-still y x m h = rw (not-written m x y h)
+  pixel-still x m h = rw (not-written m x h)
 
   -- the stretch of n pixels from x on
-  abbrev pub stretch : ℕ → ℕ → ℕ → List ℕ → List ℕ
-  stretch y x n m = upto (λ k. pixelDrawn t s y (x + k)) n m
+  abbrev pub stretch : ℕ → ℕ → List ℕ → List ℕ
+  stretch x n m = upto (λ k. drawnIn l (x + k)) n m
 
-  pub length-stretch : (y x n : ℕ) (m : List ℕ) → length (stretch y x n m) ≡ length m
-  length-stretch y x n m =
-      upto-keeps (λ k. pixelDrawn t s y (x + k)) (λ (l : List ℕ). length l ≡ length m) n m
-      (λ i l h e. length-pixel t s y (x + i) l ∙ e) refl
+  pub length-stretch : (x n : ℕ) (m : List ℕ) → length (stretch x n m) ≡ length m
+  length-stretch x n m =
+      upto-keeps (λ k. drawnIn l (x + k)) (λ (k : List ℕ). length k ≡ length m) n m
+      (λ i k h e. length-pixel (l .triangle) (l .screen) (l .row) (x + i) k ∙ e) refl
 
   -- a pixel to the right of the stretch
-  pub written-stretch : {l : ℕ} → Sound l s → (m : List ℕ) → length m ≡ l → (y x n k : ℕ) → On s (x + k) y → n ≤ k
-      → written t s (stretch y x n m) (x + k) y ≡ written t s m (x + k) y
+  pub written-stretch : {n : ℕ} → Sound n (l .screen) → (m : List ℕ) → length m ≡ n → (x i k : ℕ) → On (l .screen) (x + k) (l .row) → i ≤ k
+      → writtenIn l (stretch x i m) (x + k) ≡ writtenIn l m (x + k)
   unfolding upto
-  written-stretch q m e y x zero k p h = refl
-  written-stretch q m e y x (suc n) k p h =
-      written-pixel q t (stretch y x n m) (length-stretch y x n m ∙ e)
-      (record { across = omega (arith, p .across); down = p .down }) p (inl (λ (i : x + k ≡ x + n). omega arith))
-      ∙ written-stretch q m e y x n k p (omega arith)
+  written-stretch q m e x zero k p h = refl
+  written-stretch q m e x (suc i) k p h =
+      written-pixel q (l .triangle) (stretch x i m) (length-stretch x i m ∙ e)
+      (record { across = omega (arith, p .across); down = p .down }) p (inl (λ (j : x + k ≡ x + i). omega arith))
+      ∙ written-stretch q m e x i k p (omega arith)

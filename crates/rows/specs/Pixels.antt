@@ -4,22 +4,24 @@ use mathlib.Core.Path.{_≡_}
 use mathlib.Core.Bool.{Bool, true}
 use mathlib.Core.List.{List}
 use lib.Dec.{leb}
-use Rattle.rules.specs.declared.Screen.{Screen}
-use Rattle.rules.specs.declared.Triangle.{Triangle}
+use lib.ListN.{length}
 use Rattle.rules.specs.Folds.{upto, bit, howMany, choose}
 use Rattle.ram.specs.Ram.{loadHalf, storeHalf}
 use Rattle.rules.specs.Sizes.{height, sound}
-use Rattle.rules.specs.Triangles.{covered, written, pixelDrawn}
 use Rattle.masks.specs.Mask.{maskOf}
 use Rattle.planes.specs.declared.Tints.{Tints}
 use Rattle.planes.specs.Planes.{tintDepth, tintColour}
+use Rattle.rows.specs.Lines.{Line, coveredIn, writtenIn, drawnIn, Writing}
 
 abbrev pub passes : List ℕ → ℕ → Tints → Bool
 passes m depth v = leb (tintDepth v) (loadHalf m depth)
 
-pub record PixelDone (m : List ℕ) (colour depth : ℕ) (v : Tints) (before answer : ℕ) (after : List ℕ) : Type 0 where
-  pub counts : answer ≡ before + bit (passes m depth v)
-  pub leaves : after ≡ choose (passes m depth v) (storeHalf (storeHalf m depth (tintDepth v)) colour (tintColour v)) m
+pub record PixelDone (colour depth : ℕ) (v : Tints) (before after : Writing) : Type 0 where
+  pub counts : after .count ≡ before .count + bit (passes (before .ram) depth v)
+  pub leaves : after .ram
+      ≡ choose (passes (before .ram) depth v)
+      (storeHalf (storeHalf (before .ram) depth (tintDepth v)) colour (tintColour v))
+      (before .ram)
 
 -- a chunk is 64 columns; the one of column a starts with a's group
 abbrev pub chunkAt : ℕ → ℕ
@@ -29,15 +31,15 @@ chunkAt a = a - a % 16
 abbrev pub chunkFrom : ℕ → ℕ
 chunkFrom a = 64 - a % 16
 
--- the bits of the word are the covered pixels of a's chunk in row y, and a's is set
-pub record WordAsked (n : ℕ) (s : Screen) (t : Triangle) (y a wide before : ℕ) : Type 0 where
-  pub is-sound : sound n s ≡ true
-  pub row : y < height (s .size)
-  pub says : wide ≡ maskOf (λ k. covered t s (chunkAt a + k) y) 64
-  pub begins : covered t s a y ≡ true
-  pub room : before + 64 < 4294967296
+-- the bits of the word are the covered pixels of a's chunk, and a's is set
+pub record WordAsked (l : Line) (a wide : ℕ) (before : Writing) : Type 0 where
+  pub is-sound : sound (length (before .ram)) (l .screen) ≡ true
+  pub row : l .row < height (l .screen .size)
+  pub says : wide ≡ maskOf (λ k. coveredIn l (chunkAt a + k)) 64
+  pub begins : coveredIn l a ≡ true
+  pub room : before .count + 64 < 4294967296
 
 -- its pixels from a on are drawn
-pub record WordDone (m : List ℕ) (s : Screen) (t : Triangle) (y a before answer : ℕ) (after : List ℕ) : Type 0 where
-  pub counts : answer ≡ before + howMany (λ k. written t s m (a + k) y) (chunkFrom a)
-  pub leaves : after ≡ upto (λ k. pixelDrawn t s y (a + k)) (chunkFrom a) m
+pub record WordDone (l : Line) (a : ℕ) (before after : Writing) : Type 0 where
+  pub counts : after .count ≡ before .count + howMany (λ k. writtenIn l (before .ram) (a + k)) (chunkFrom a)
+  pub leaves : after .ram ≡ upto (λ k. drawnIn l (a + k)) (chunkFrom a) (before .ram)

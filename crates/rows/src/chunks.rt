@@ -10,7 +10,7 @@ use rules::Triangle;
 ghost use mathlib.Core.Path.{_≡_};
 ghost use mathlib.Core.Logic.{_⊎_};
 ghost use Prim.Native.Nat.{_≤_};
-ghost use lib.ListN.{length};
+ghost use Rattle.rows.specs.Lines.{drawing, line, span};
 ghost use Rattle.rows.specs.Rows.{ChunkAsked, ChunkDone, RowAsked, RowDone};
 
 // The lesser of two numbers.
@@ -25,8 +25,8 @@ fn lesser(a: u32, b: u32) -> u32
 
 // Four groups side by side, a's and those to its right, by their masks alone: the ones are counted, as 01 counts, and the pixels drawn.
 fn chunk(ram: &mut [u8], s: Screen, t: Triangle, a: u32, y: u32, m: Masks, given: Counts) -> Counts
-    requires { ⌜ ChunkAsked (length (now ram)) s t y a m given ⌝ }
-    ensures { λ r. ⌜ ChunkDone (now (ram .entry)) s t y a given r (now (ram .exit)) ⌝ }
+    requires { ⌜ ChunkAsked (line s t y) a m (drawing (now ram) given) ⌝ }
+    ensures { λ r. ⌜ ChunkDone (line s t y) a (drawing (now (ram .entry)) given) (drawing (now (ram .exit)) r) ⌝ }
 {
     let covered = given.covered + ones_of(m);
     let written = enabled(ram, s, t, a, y, joined(m), given.written);
@@ -43,8 +43,8 @@ pub fn row(
     to: u32,
     given: Counts,
 ) -> Counts
-    requires { ⌜ RowAsked (length (now ram)) s t y from to given ⌝ }
-    ensures { λ r. ⌜ RowDone (now (ram .entry)) s t y given r (now (ram .exit)) ⌝ }
+    requires { ⌜ RowAsked (line s t y) (span from to) (drawing (now ram) given) ⌝ }
+    ensures { λ r. ⌜ RowDone (line s t y) (drawing (now (ram .entry)) given) (drawing (now (ram .exit)) r) ⌝ }
 {
     let mut a = from;
     let mut c = given;

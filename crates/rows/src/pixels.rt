@@ -11,12 +11,13 @@ use screen::sizes::colour_at;
 use screen::sizes::depth_at;
 ghost use Prim.Native.Nat.{_+_, _<_};
 ghost use lib.ListN.{length};
+ghost use Rattle.rows.specs.Lines.{line, writing};
 ghost use Rattle.rows.specs.Pixels.{PixelDone, WordAsked, WordDone};
 
 // One covered pixel, written where its depth is at most the stored one. It answers the number given, and one more where it was written.
 pub fn pixel(ram: &mut [u8], colour: usize, depth: usize, v: Tints, written: u32) -> u32
     requires { ⌜ (colour + 1 < length (now ram)) × (depth + 1 < length (now ram)) × (written < 4294967295) ⌝ }
-    ensures { λ r. ⌜ PixelDone (now (ram .entry)) colour depth v written r (now (ram .exit)) ⌝ }
+    ensures { λ r. ⌜ PixelDone colour depth v (writing (now (ram .entry)) written) (writing (now (ram .exit)) r) ⌝ }
 {
     let z = (v.zb / 281474976710656) as u32;
     if load_half(ram, depth) < z {
@@ -31,8 +32,8 @@ pub fn pixel(ram: &mut [u8], colour: usize, depth: usize, v: Tints, written: u32
 // The pixels whose bit is set in `wide`, which has a bit for each of 64 columns from a's group on; a's is the first that is set.
 // It answers the number given and how many were written.
 pub fn enabled(ram: &mut [u8], s: Screen, t: Triangle, a: u32, y: u32, wide: u64, given: u32) -> u32
-    requires { ⌜ WordAsked (length (now ram)) s t y a wide given ⌝ }
-    ensures { λ r. ⌜ WordDone (now (ram .entry)) s t y a given r (now (ram .exit)) ⌝ }
+    requires { ⌜ WordAsked (line s t y) a wide (writing (now ram) given) ⌝ }
+    ensures { λ r. ⌜ WordDone (line s t y) a (writing (now (ram .entry)) given) (writing (now (ram .exit)) r) ⌝ }
 {
     let colour = colour_at(s, a, y);
     let depth = depth_at(s, a, y);

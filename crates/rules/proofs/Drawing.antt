@@ -19,7 +19,7 @@ use Rattle.rules.specs.Calls.{cleared}
 use Rattle.rules.proofs.Folds.{upto-keeps}
 use Rattle.ram.proofs.Halves.{joined}
 use Rattle.rules.proofs.Pixels.{On, Other, Sound, and-l, and-r, Cell, cell, painted, length-putPixel}
-use Rattle.rules.proofs.Memory.{Touched, Only, Row, Rows, touched-same, touched-put, row-of-steps, rows-of-steps}
+use Rattle.rules.proofs.Memory.{PixelSet, Touched, Only, Row, Rows, touched-same, touched-put, row-of-steps, rows-of-steps}
 
 -- a covered pixel is a pixel of the screen
 pub covered-on : (t : Triangle) {s : Screen} {x y : ℕ} → covered t s x y ≡ true → On s x y
@@ -104,7 +104,7 @@ module _ {n : ℕ} {s : Screen} (k : Sound n s) (colour depth : ℕ) where
       (height (s .size)) m (omega arith) l
 
 -- whether a pixel is written, while others are drawn
-module _ (t : Triangle) {s : Screen} {g : ℕ → ℕ → Cell → Cell} {D : ℕ → ℕ → Type 0} {l m : List ℕ} where
+module _ (t : Triangle) {s : Screen} {g : ℕ → ℕ → Cell → Cell} {D : PixelSet} {l m : List ℕ} where
   pub written-kept : {x y : ℕ} → Touched s g D l m → On s x y → ¬ D x y → written t s m x y ≡ written t s l x y
   unfolding written loadHalf
   written-kept {x} {y} c p d =

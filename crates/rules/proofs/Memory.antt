@@ -31,18 +31,22 @@ module _ (s : Screen) (l m : List ℕ) where
       go b (in-depth p i) = same-byte i (ap (λ z. z .depth) (c _ _ p))
       go b (outside n) = o b n
 
+-- a set of pixels, by their columns and rows
+abbrev pub PixelSet : Type 1
+PixelSet = ℕ → ℕ → Type 0
+
 -- `after` is `before` with the cell of each pixel of D changed by g, and all else kept
-pub record Touched (s : Screen) (g : ℕ → ℕ → Cell → Cell) (D : ℕ → ℕ → Type 0) (before after : List ℕ) : Type 0 where
+pub record Touched (s : Screen) (g : ℕ → ℕ → Cell → Cell) (D : PixelSet) (before after : List ℕ) : Type 0 where
   pub same-length : length after ≡ length before
   pub changed : {x y : ℕ} → On s x y → D x y → cell s after x y ≡ g x y (cell s before x y)
   pub kept : {x y : ℕ} → On s x y → ¬ D x y → cell s after x y ≡ cell s before x y
   pub beyond : {b : ℕ} → Outside s b → getD after b 0 ≡ getD before b 0
 
 -- the pixels of the steps before step k, where those of step i are E i
-abbrev pub Below : (ℕ → ℕ → ℕ → Type 0) → ℕ → ℕ → ℕ → Type 0
+abbrev pub Below : (ℕ → PixelSet) → ℕ → PixelSet
 Below E k x y = (i : ℕ) × (i < k) × E i x y
 
-one-more : (E : ℕ → ℕ → ℕ → Type 0) (k x y : ℕ) → Below E (suc k) x y ↔ (Below E k x y ⊎ E k x y)
+one-more : (E : ℕ → PixelSet) (k x y : ℕ) → Below E (suc k) x y ↔ (Below E k x y ⊎ E k x y)
 one-more E k x y = (λ b. go b (ℕ-discrete (b .0) k), back)
   where
     go : (b : Below E (suc k) x y) → Dec (b .0 ≡ k) → Below E k x y ⊎ E k x y
@@ -55,7 +59,7 @@ one-more E k x y = (λ b. go b (ℕ-discrete (b .0) k), back)
 
 module _ {s : Screen} {g : ℕ → ℕ → Cell → Cell} where
   -- first the pixels of D, then those of E, which are others: together those of F
-  pub touched-then : {D E F : ℕ → ℕ → Type 0} {l m k : List ℕ}
+  pub touched-then : {D E F : PixelSet} {l m k : List ℕ}
       → Touched s g D l m
       → Touched s g E m k
       → ((x y : ℕ) → D x y → ¬ E x y)
@@ -75,7 +79,7 @@ module _ {s : Screen} {g : ℕ → ℕ → Cell → Cell} where
   -- step i touches the pixels of E i, and no pixel is touched in two steps
   module _
       (n : ℕ)
-      {E : ℕ → ℕ → ℕ → Type 0}
+      {E : ℕ → PixelSet}
       (f : ℕ → List ℕ → List ℕ)
       (once : (i j x y : ℕ) → E i x y → E j x y → i ≡ j)
     where
@@ -98,13 +102,13 @@ module _ {s : Screen} {g : ℕ → ℕ → Cell → Cell} where
           (one-more E k)
 
 -- pixel (x, y) alone; the first k pixels of row y; the first h rows
-abbrev pub Only : ℕ → ℕ → ℕ → ℕ → Type 0
+abbrev pub Only : ℕ → ℕ → PixelSet
 Only y x x′ y′ = (x′ ≡ x) × (y′ ≡ y)
 
-abbrev pub Row : ℕ → ℕ → ℕ → ℕ → Type 0
+abbrev pub Row : ℕ → ℕ → PixelSet
 Row k y = Below (Only y) k
 
-abbrev pub Rows : Screen → ℕ → ℕ → ℕ → Type 0
+abbrev pub Rows : Screen → ℕ → PixelSet
 Rows s h = Below (Row (width (s .size))) h
 
 pub on-rows : {s : Screen} {x y : ℕ} → On s x y → Rows s (height (s .size)) x y

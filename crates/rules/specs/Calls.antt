@@ -9,7 +9,7 @@ use Rattle.rules.specs.declared.Screen.{Screen}
 use Rattle.rules.specs.declared.Triangle.{Triangle}
 use Rattle.rules.specs.declared.Drawn.{Drawn}
 use Rattle.rules.specs.Folds.{upto, choose}
-use Rattle.rules.specs.Sizes.{width, height, Area, colourAt, depthAt, putPixel}
+use Rattle.rules.specs.Sizes.{width, height, Area, colourAt, depthAt, Pixel, putPixel}
 use Rattle.rules.specs.Numbers.{screenNumber, rowNumber, triangleNumber}
 use Rattle.rules.specs.Triangles.{coveredPixels, writtenPixels, drawn}
 
@@ -22,10 +22,10 @@ cleared s colour depth m =
 abbrev pub accepted : {A : Type 0} → ℕ → A → A → A
 accepted number done kept = choose (eqb number 0) done kept
 
--- a clear from memory m: it answers `number` and leaves the memory `after`
-pub record Clears (m : List ℕ) (s : Screen) (colour depth : ℕ) (number : ℕ) (after : List ℕ) : Type 0 where
+-- a clear from memory m to what every pixel is to hold: it answers `number` and leaves the memory `after`
+pub record Clears (m : List ℕ) (s : Screen) (p : Pixel) (number : ℕ) (after : List ℕ) : Type 0 where
   pub answers : number ≡ screenNumber (length m) s
-  pub leaves : after ≡ accepted (screenNumber (length m) s) (cleared s colour depth m) m
+  pub leaves : after ≡ accepted (screenNumber (length m) s) (cleared s (p .colour) (p .depth) m) m
 
 -- drawing a triangle from memory m: it answers `answer` and leaves the memory `after`
 pub record Draws (m : List ℕ) (s : Screen) (t : Triangle) (answer : Drawn) (after : List ℕ) : Type 0 where

@@ -53,6 +53,14 @@ depthAt s x y = s .depth + (y * width (s .size) + x) * 2
 abbrev pub Area : Type 0
 Area = Screen → ℕ → ℕ → ℕ
 
+-- what a pixel holds
+pub record Pixel : Type 0 where
+  pub colour : ℕ
+  pub depth : ℕ
+
+abbrev pub pixel : ℕ → ℕ → Pixel
+pixel colour depth = record { colour = colour; depth = depth }
+
 -- a pixel's colour and depth, written
 unfoldable pub putPixel : Screen → ℕ → ℕ → ℕ → ℕ → List ℕ → List ℕ
 putPixel s x y colour depth m = storeHalf (storeHalf m (colourAt s x y) colour) (depthAt s x y) depth

@@ -12,7 +12,7 @@ use Rattle.rules.specs.declared.Vertices.{Vertices}
 use Rattle.rules.specs.declared.Triangle.{Triangle}
 use Rattle.rules.specs.Folds.{upto, pixels, choose}
 use Rattle.ram.specs.Ram.{loadHalf}
-use Rattle.rules.specs.Sizes.{width, height, depthAt, putPixel}
+use Rattle.rules.specs.Sizes.{width, height, depthAt, Pixel, pixel, putPixel}
 
 -- "At pixel (x, y) a plane has c + a·x + b·y, taken modulo 2^32."
 unfoldable pub planeAt : Plane → ℕ → ℕ → ℕ
@@ -31,6 +31,9 @@ triangleDepth t x y = topHalf (planeAt (t .depth) x y)
 
 unfoldable pub triangleColour : Triangle → ℕ → ℕ → ℕ
 triangleColour t x y = packed (planeAt (t .red) x y) (planeAt (t .green) x y) (planeAt (t .blue) x y)
+
+abbrev pub trianglePixel : Triangle → ℕ → ℕ → Pixel
+trianglePixel t x y = pixel (triangleColour t x y) (triangleDepth t x y)
 
 pub record Point : Type 0 where
   pub px : ℤ

@@ -11,7 +11,7 @@ use borrow.Author.Tests.{eq-eqb, ne-eqb}
 use Rattle.rules.specs.declared.Screen.{Screen}
 use Rattle.rules.specs.Folds.{upto}
 use Rattle.ram.specs.Ram.{storeHalf}
-use Rattle.rules.specs.Sizes.{width, height, area, putPixel}
+use Rattle.rules.specs.Sizes.{width, height, area, pixel, putPixel}
 use Rattle.rules.specs.Numbers.{screenNumber}
 use Rattle.rules.specs.Calls.{cleared, Clears}
 use Rattle.rules.proofs.Folds.{upto-more, upto-keeps}
@@ -86,10 +86,10 @@ module _ {n : ℕ} {s : Screen} (k : Sound n s) (c d : ℕ) where
   areas-filled m e p q = rw (q, p, e) (two-fills m)
 
 module _ (m : List ℕ) (s : Screen) (c d : ℕ) (r : ℕ) (answers : r ≡ screenNumber (length m) s) where
-  pub refused : ¬ (r ≡ 0) → Clears m s c d r m
+  pub refused : ¬ (r ≡ 0) → Clears m s (pixel c d) r m
   refused z = record { answers = answers; leaves = other _ (cleared s c d m) m (ne-eqb _ _ (λ p. z (answers ∙ p))) }
 
-  pub done : r ≡ 0 → (after : List ℕ) → after ≡ cleared s c d m → Clears m s c d 0 after
+  pub done : r ≡ 0 → (after : List ℕ) → after ≡ cleared s c d m → Clears m s (pixel c d) 0 after
   done z after e =
       let zero : screenNumber (length m) s ≡ 0 = sym answers ∙ z in
       record { answers = sym zero; leaves = e ∙ chosen _ (cleared s c d m) m (eq-eqb _ _ zero) }

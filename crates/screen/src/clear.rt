@@ -2,7 +2,7 @@ ghost use Prim.Native.Nat.{_+_, _*_, _≤_};
 ghost use mathlib.Core.Path.{_≡_};
 ghost use lib.ListN.{length};
 ghost use mathlib.Core.Bool.{true};
-ghost use Rattle.rules.specs.Sizes.{sound};
+ghost use Rattle.rules.specs.Sizes.{pixel, sound};
 ghost use Rattle.rules.specs.Calls.{Clears, cleared};
 ghost use Rattle.screen.specs.Fills.{filled};
 use crate::sizes::pixel_count;
@@ -36,7 +36,7 @@ fn fill_areas(ram: &mut [u8], s: Screen, colour: u16, depth: u16)
 }
 
 pub fn clear(ram: &mut [u8], s: Screen, colour: u16, depth: u16) -> u32
-    ensures { λ r. ⌜ Clears (now (ram .entry)) s colour depth r (now (ram .exit)) ⌝ }
+    ensures { λ r. ⌜ Clears (now (ram .entry)) s (pixel colour depth) r (now (ram .exit)) ⌝ }
 {
     let number = screen_number(ram.len(), s);
     if number != 0 {

@@ -5,14 +5,14 @@ use native.Mathlib.Omega.{arith}
 use lib.IntN.{ℤ, natAbs, _*ℤ_}
 use mir.Syntax.{w64}
 use mir.Val.{toZ, ofZ}
-use Rattle.ints.proofs.Machine.{Code, word-of, need, reads-as, size-of}
+use Rattle.ints.proofs.Machine.{Code, word-of, reads-as, size-of}
 use Rattle.rules.specs.Triangles.{Edge, dy, edgeValue, sample}
 use Rattle.cover.specs.Units.{raise, Rounded}
 use Rattle.edges.specs.Edges.{edgeFrom}
 use Rattle.cover.specs.Side.{risingValue, rising, across, scale}
 use Rattle.edges.proofs.Within.{EdgeWithin, edge-within, read-in-range}
 use Rattle.edges.proofs.Codes as code
-use Rattle.edges.proofs.Codes.{answeredC, answered}
+use Rattle.edges.proofs.Codes.{Differences, differences, answeredC, answered}
 use Rattle.cover.proofs.Signs.{scaled-read}
 use Rattle.cover.proofs.Quotients.{rounded-more}
 use Rattle.cover.proofs.Crossing.{rising-within, scaled-within}
@@ -31,23 +31,8 @@ dxC c = code.dxC (edge c) (in-range c)
 abbrev dyC : tie.Start → Code w64
 dyC c = code.dyC (edge c) (in-range c)
 
-cast-dx : tie.Need-cast-dx
-cast-dx c = need (code.x2C (edge c) (in-range c)) tt
-
-cast-dx-2 : tie.Need-cast-dx-2
-cast-dx-2 c = need (code.x1C (edge c) (in-range c)) tt
-
-sub-dx : tie.Need-sub-dx
-sub-dx c = need (dxC c) tt
-
-cast-dy : tie.Need-cast-dy
-cast-dy c = need (code.y2C (edge c) (in-range c)) tt
-
-cast-dy-2 : tie.Need-cast-dy-2
-cast-dy-2 c = need (code.y1C (edge c) (in-range c)) tt
-
-sub-dy : tie.Need-sub-dy
-sub-dy c = need (dyC c) tt
+asked : (c : tie.Start) → Differences (edge c) (in-range c)
+asked c = differences (edge c) (in-range c)
 
 edge-value-requires : tie.Need-edge-value-requires
 edge-value-requires c κs = (read-in-range (edge c) (c .pre .0), omega arith, c .pre .1)
@@ -102,12 +87,12 @@ pub crossing-spec : {M : Type 1} → statement M
 crossing-spec =
     tie.close
     (tie.spec
-    cast-dx
-    cast-dx-2
-    sub-dx
-    cast-dy
-    cast-dy-2
-    sub-dy
+    (λ c. asked c .in-x2)
+    (λ c. asked c .in-x1)
+    (λ c. asked c .in-dx)
+    (λ c. asked c .in-y2)
+    (λ c. asked c .in-y1)
+    (λ c. asked c .in-dy)
     edge-value-requires
     rising-value-requires
     in-ticks-requires

@@ -5,13 +5,14 @@ use lib.IntN.{natAbs, _*ℤ_}
 use mir.Syntax.{w64}
 use mir.Val.{toZ, ofZ}
 use Rattle.ints.proofs.Bounds.{Within, within-sub}
-use Rattle.ints.proofs.Machine.{Code, word-of, need, reads-as, size-of}
+use Rattle.ints.proofs.Machine.{Code, word-of, reads-as, size-of}
 use Rattle.rules.specs.Triangles.{Edge, dx, dy}
 use Rattle.cover.specs.Units.{lift, Rounded}
 use Rattle.edges.specs.Edges.{edgeFrom}
 use Rattle.cover.specs.Side.{across, scale, down}
 use Rattle.edges.proofs.Within.{EdgeWithin, edge-within}
 use Rattle.edges.proofs.Codes as code
+use Rattle.edges.proofs.Codes.{Differences, differences}
 use Rattle.cover.proofs.Signs.{code-above, scaled-read}
 use Rattle.cover.proofs.Crossing.{down-within, down-scaled-within}
 use Rattle.cover.proofs.setup.side.Statement.{statement}
@@ -29,23 +30,8 @@ dxC c = code.dxC (edge c) (in-range c)
 abbrev dyC : tie.Start → Code w64
 dyC c = code.dyC (edge c) (in-range c)
 
-cast-dx : tie.Need-cast-dx
-cast-dx c = need (code.x2C (edge c) (in-range c)) tt
-
-cast-dx-2 : tie.Need-cast-dx-2
-cast-dx-2 c = need (code.x1C (edge c) (in-range c)) tt
-
-sub-dx : tie.Need-sub-dx
-sub-dx c = need (dxC c) tt
-
-cast-dy : tie.Need-cast-dy
-cast-dy c = need (code.y2C (edge c) (in-range c)) tt
-
-cast-dy-2 : tie.Need-cast-dy-2
-cast-dy-2 c = need (code.y1C (edge c) (in-range c)) tt
-
-sub-dy : tie.Need-sub-dy
-sub-dy c = need (dyC c) tt
+asked : (c : tie.Start) → Differences (edge c) (in-range c)
+asked c = differences (edge c) (in-range c)
 
 down-requires : tie.Need-down-requires
 down-requires c κs = size-of (dxC c) tt
@@ -87,12 +73,12 @@ pub side-spec : {M : Type 1} → statement M
 side-spec =
     tie.close
     (tie.spec
-    cast-dx
-    cast-dx-2
-    sub-dx
-    cast-dy
-    cast-dy-2
-    sub-dy
+    (λ c. asked c .in-x2)
+    (λ c. asked c .in-x1)
+    (λ c. asked c .in-dx)
+    (λ c. asked c .in-y2)
+    (λ c. asked c .in-y1)
+    (λ c. asked c .in-dy)
     down-requires
     in-ticks-requires
     returns)

@@ -11,13 +11,14 @@ use Rattle.rules.proofs.Pixels.{sound-facts, width-le, height-le}
 use Rattle.cover.specs.Side.{CrossingsOf}
 use Rattle.cover.specs.Spans.{RowSpan}
 use Rattle.cover.proofs.Crossing.{crossings-can-go-below}
+use Rattle.rows.specs.Lines.{line, drawing}
 use Rattle.rows.proofs.Rowed.{covered-is}
-use Rattle.draw.proofs.Framed.{Down, down-none, down-skip, down-more, down-last, length-down, room-down}
+use Rattle.draw.proofs.Framed.{Down, undrawn, down-none, down-skip, down-more, down-last, length-down, room-down}
 use Rattle.draw.proofs.frames.frame.Statement.{statement}
 use Rattle.draw.proofs.frames.frame.Tie as tie
 
 abbrev Inv-loop : tie.InvT-loop
-Inv-loop ram₀ s t d w end y₀ m₀ c₀ ram y m c = Down ram₀ s t ram y c × (y ≤ end) × CrossingsOf (t .vertices) y m
+Inv-loop ram₀ s t d w end y₀ m₀ c₀ ram y m c = Down ram₀ s t (drawing ram c) y × (y ≤ end) × CrossingsOf (t .vertices) y m
 
 abbrev μ-loop : tie.MeasureT-loop
 μ-loop ram₀ s t d w end y₀ m₀ c₀ ram y m c = end - y
@@ -66,8 +67,8 @@ loop-holds c =
     let e = rows .before .height .ensures in
     let first = r .result .from in
     let f = sound-facts (q .pre .is-sound) in (
-      subst (λ (y : ℕ). Down m (a .s) (a .t) m y (record { covered = 0; written = 0 })) (zero-add first)
-          (down-skip m (a .s) (a .t) f first m 0 (record { covered = 0; written = 0 }) (down-none m (a .s) (a .t))
+      subst (Down m (a .s) (a .t) (undrawn m)) (zero-add first)
+          (down-skip f down-none first
           (omega (arith, r .ensures .ordered, r .ensures .limited))
           (λ x j h k. r .ensures .before x j (omega (arith, r .ensures .ordered, r .ensures .limited)) (omega arith))),
       r .ensures .ordered,
@@ -97,15 +98,12 @@ row-requires c κs =
     (span .ensures (a .t .vertices) (l .y) (q .pre .in-range) (omega (arith, row, height-le f))
     (sized .before .sides .ensures) (l .inv .2)) in
     record {
-      is-sound =
-          subst (λ (n : ℕ). sound n (a .s) ≡ true)
-          (sym (length-down (a .ram .now) (a .s) (a .t) (l .ram) (l .y) (l .c) (l .inv .0)))
-          (q .pre .is-sound);
+      is-sound = subst (λ (n : ℕ). sound n (a .s) ≡ true) (sym (length-down (l .inv .0))) (q .pre .is-sound);
       row = row;
       ordered = r .ordered;
       limited = r .limited;
-      spans = λ x h. covered-is (a .t) (a .s) (record { across = h; down = row }) ∙ r .spans x h;
-      room = room-down (a .ram .now) (a .s) (a .t) f (l .ram) (l .y) (l .c) (l .inv .0);
+      spans = λ x h. covered-is (line (a .s) (a .t) (l .y)) (record { across = h; down = row }) ∙ r .spans x h;
+      room = room-down (l .inv .0) f;
     }
 
 crossings-below-requires : tie.Need-crossings-below-requires Inv-loop μ-loop
@@ -143,21 +141,14 @@ loop-again c =
     let sized = rows .before .before in
     let q = sized .before .before .before .before in
     let a = q .args in
-    let l = test .before .loop in
-    let r = drawn .row in (
-      down-more (a .ram .now) (a .s) (a .t) (sound-facts (q .pre .is-sound)) (l .ram) (l .y) (l .c) (l .inv .0) (on-screen test)
-          (r .result) (r .last .0) (r .ensures),
+    let l = test .before .loop in (
+      down-more (l .inv .0) (sound-facts (q .pre .is-sound)) (on-screen test) (drawn .row .ensures),
       omega (arith, test .loop-test .taken),
       c .crossings-below .ensures (a .t .vertices) (l .y) (sized .before .sides .ensures) (l .inv .2),
     )
 
 same-length : tie.Need-same-length Inv-loop μ-loop
-same-length c =
-    let rows = c .before .before .before in
-    let sized = rows .before .before in
-    let a = sized .before .before .before .before .args in
-    let l = c .before .loop in
-    length-down (a .ram .now) (a .s) (a .t) (l .ram) (l .y) (l .c) (l .inv .0)
+same-length c = length-down (c .before .loop .inv .0)
 
 returns : tie.Need-returns Inv-loop μ-loop
 returns c =
@@ -170,9 +161,9 @@ returns c =
     let r = rows .touched-rows .ensures in
     let h = height (a .s .size) in
     let e : l .y + (h - l .y) ≡ h = omega (arith, l .inv .0 .before-end) in
-    down-last m (a .s) (a .t) (l .ram) (l .c)
-    (subst (λ (y : ℕ). Down m (a .s) (a .t) (l .ram) y (l .c)) e
-    (down-skip m (a .s) (a .t) (sound-facts (q .pre .is-sound)) (h - l .y) (l .ram) (l .y) (l .c) (l .inv .0) (omega arith)
+    down-last
+    (subst (Down m (a .s) (a .t) (drawing (l .ram) (l .c))) e
+    (down-skip (sound-facts (q .pre .is-sound)) (l .inv .0) (h - l .y) (omega arith)
     (λ x j m n. r .beyond x j (omega (arith, rows .before .height .ensures)) (omega (arith, l .inv .1, c .loop-test .left)))))
 
 pub frame-spec : {M : Type 1} → statement M

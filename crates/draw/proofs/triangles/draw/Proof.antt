@@ -27,9 +27,7 @@ returns-2 c =
     let test = c .before .before .before .before in
     let number = test .before in
     let a = number .before .before .args in
-    let f = c .before .before .frame in
-    done-draws (a .ram .now) (a .s) (a .t) (sym (number .triangle-number .ensures) ∙ test .if1 .left)
-    (f .result) (f .last .0) (f .ensures)
+    done-draws (a .ram .now) (a .s) (a .t) (sym (number .triangle-number .ensures) ∙ test .if1 .left) (c .before .before .frame .ensures)
 
 pub draw-spec : {M : Type 1} → statement M
 draw-spec =

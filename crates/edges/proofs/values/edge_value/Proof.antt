@@ -6,7 +6,7 @@ use Rattle.rules.specs.Triangles.{Edge, sample, edgeValue}
 use Rattle.edges.specs.Edges.{edgeFrom}
 use Rattle.edges.proofs.Within.{EdgeWithin, edge-within}
 use Rattle.edges.proofs.Codes as code
-use Rattle.edges.proofs.Codes.{offsetC, eightC}
+use Rattle.edges.proofs.Codes.{Differences, differences, offsetC, eightC}
 use borrow.Author.Needs.{needs}
 use Rattle.edges.proofs.values.edge_value.Statement.{statement}
 use Rattle.edges.proofs.values.edge_value.Tie as tie
@@ -44,23 +44,8 @@ left c = code.leftC (edge c) (in-range c) (px c) (py c)
 abbrev value : tie.Start → Code w64
 value c = code.valueC (edge c) (in-range c) (px c) (py c)
 
-cast-dx : tie.Need-cast-dx
-cast-dx c = need (code.x2C (edge c) (in-range c)) tt
-
-cast-dx-2 : tie.Need-cast-dx-2
-cast-dx-2 c = need (code.x1C (edge c) (in-range c)) tt
-
-sub-dx : tie.Need-sub-dx
-sub-dx c = need (dx c) tt
-
-cast-dy : tie.Need-cast-dy
-cast-dy c = need (code.y2C (edge c) (in-range c)) tt
-
-cast-dy-2 : tie.Need-cast-dy-2
-cast-dy-2 c = need (code.y1C (edge c) (in-range c)) tt
-
-sub-dy : tie.Need-sub-dy
-sub-dy c = need (dy c) tt
+asked : (c : tie.Start) → Differences (edge c) (in-range c)
+asked c = differences (edge c) (in-range c)
 
 cast-px : tie.Need-cast-px
 cast-px c = search needs
@@ -81,7 +66,7 @@ add-py : tie.Need-add-py
 add-py c = need (py c) tt
 
 cast-result : tie.Need-cast-result
-cast-result c = need (code.y1C (edge c) (in-range c)) tt
+cast-result c = asked c .in-y1
 
 sub-result : tie.Need-sub-result
 sub-result c = need (up c) tt
@@ -90,7 +75,7 @@ mul-result : tie.Need-mul-result
 mul-result c = need (up c ⊠ dx c) tt
 
 cast-result-2 : tie.Need-cast-result-2
-cast-result-2 c = need (code.x1C (edge c) (in-range c)) tt
+cast-result-2 c = asked c .in-x1
 
 sub-result-2 : tie.Need-sub-result-2
 sub-result-2 c = need (left c) tt
@@ -112,12 +97,12 @@ pub edge-value-spec : {M : Type 1} → statement M
 edge-value-spec =
     tie.close
     (tie.spec
-    cast-dx
-    cast-dx-2
-    sub-dx
-    cast-dy
-    cast-dy-2
-    sub-dy
+    (λ c. asked c .in-x2)
+    (λ c. asked c .in-x1)
+    (λ c. asked c .in-dx)
+    (λ c. asked c .in-y2)
+    (λ c. asked c .in-y1)
+    (λ c. asked c .in-dy)
     cast-px
     mul-px
     add-px

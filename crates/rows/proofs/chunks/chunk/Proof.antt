@@ -17,7 +17,7 @@ add-covered : tie.Need-add-covered
 add-covered c =
     let q = c .before .before .before in
     let a = q .args in
-    let n = all-ones (a .ram .now) (a .s) (a .t) (a .y) (a .a) (a .m) (a .given) (q .pre) in
+    let n = all-ones (q .pre) in
     let few = howMany-le (λ (k : ℕ). covered (a .t) (a .s) (a .a + k) (a .y)) (chunkFrom (a .a)) in
     omega (arith, c .before .ones-of .ensures, n, few, q .pre .room .to-cover)
 
@@ -28,8 +28,7 @@ enabled-requires : tie.Need-enabled-requires
 enabled-requires c κs =
     let known = c .before .before in
     let q = known .before .before .before in
-    let a = q .args in
-    word-asked (a .ram .now) (a .s) (a .t) (a .y) (a .a) (a .m) (a .given) (q .pre) (c .joined .result) (c .joined .ensures)
+    word-asked (q .pre) (c .joined .ensures)
 
 same-length : tie.Need-same-length
 same-length c = search needs
@@ -41,8 +40,7 @@ returns c =
     let q = ones .before .before in
     let a = q .args in
     let n : a .given .covered + ones .ones-of .result ≡ _ = ap (λ (k : ℕ). a .given .covered + k) (ones .ones-of .ensures) in
-    chunk-done (a .ram .now) (a .s) (a .t) (a .y) (a .a) (a .m) (a .given) (q .pre) _ (drawn .enabled .result) (drawn .enabled .last .0) n
-    (drawn .enabled .ensures)
+    chunk-done (q .pre) n (drawn .enabled .ensures)
 
 pub chunk-spec : {M : Type 1} → statement M
 chunk-spec = tie.close (tie.spec ones-of-requires add-covered joined-requires enabled-requires same-length returns)

@@ -1,12 +1,13 @@
 -- The loop's invariant is `Across`: what holds before column a. Its laws are the loop's needs.
 use Prim.Native.Nat.{_-_, _<_}
 use native.Mathlib.Omega.{arith}
+use Rattle.rows.specs.Lines.{line, drawing}
 use Rattle.rows.proofs.Rowed.{Across, across-first, across-more, across-last, length-across, in-chunk, short, chunk-asked}
 use Rattle.rows.proofs.chunks.row.Statement.{statement}
 use Rattle.rows.proofs.chunks.row.Tie as tie
 
 abbrev Inv-loop : tie.InvT-loop
-Inv-loop ram₀ s t y from to a₀ c₀ ram a c = Across ram₀ s t y from c₀ ram a c
+Inv-loop ram₀ s t y from to a₀ c₀ ram a c = Across (line s t y) from (drawing ram₀ c₀) (drawing ram c) a
 
 abbrev μ-loop : tie.MeasureT-loop
 μ-loop ram₀ s t y from to a₀ c₀ ram a c = to - a
@@ -15,10 +16,10 @@ abbrev μ-loop : tie.MeasureT-loop
 left : (c : tie.In-loop Inv-loop μ-loop) → c .before .loop .a < 640
 left c =
     let loop = c .before in
-    short _ _ _ _ _ _ _ (loop .before .before .pre) _ _ _ (loop .loop .inv) (c .loop-test .taken)
+    short (loop .before .before .pre) (loop .loop .inv) (c .loop-test .taken)
 
 loop-holds : tie.Need-loop-holds Inv-loop μ-loop
-loop-holds c = across-first _ _ _ _ _ _ _ (c .before .pre)
+loop-holds c = across-first (c .before .pre)
 
 sub-lesser : tie.Need-sub-lesser Inv-loop μ-loop
 sub-lesser c = omega (arith, c .loop-test .taken)
@@ -39,8 +40,8 @@ chunk-requires c κs =
     let past = c .before .before in
     let test = past .before in
     let loop = test .before in
-    chunk-asked _ _ _ _ _ _ _ (loop .before .before .pre) _ _ _ (loop .loop .inv) (test .loop-test .taken) (past .lesser .result)
-    (past .lesser .ensures) (c .span-masks .result) (c .span-masks .ensures)
+    chunk-asked (loop .before .before .pre) (loop .loop .inv) (test .loop-test .taken) (past .lesser .ensures)
+    (c .span-masks .ensures)
 
 sub-a : tie.Need-sub-a Inv-loop μ-loop
 sub-a c = omega arith
@@ -62,18 +63,17 @@ loop-again c =
     let past = drawn .before .before .before in
     let test = past .before in
     let loop = test .before in
-    across-more _ _ _ _ _ _ _ (loop .before .before .pre) _ _ _ (loop .loop .inv) (test .loop-test .taken)
-    (drawn .chunk .result) (drawn .chunk .last .0) (drawn .chunk .ensures)
+    across-more (loop .before .before .pre) (loop .loop .inv) (test .loop-test .taken) (drawn .chunk .ensures)
 
 same-length : tie.Need-same-length Inv-loop μ-loop
 same-length c =
     let loop = c .before in
-    length-across _ _ _ _ _ _ _ (loop .before .before .pre) _ _ _ (loop .loop .inv)
+    length-across (loop .before .before .pre) (loop .loop .inv)
 
 returns : tie.Need-returns Inv-loop μ-loop
 returns c =
     let loop = c .before in
-    across-last _ _ _ _ _ _ _ (loop .before .before .pre) _ _ _ (loop .loop .inv) (c .loop-test .left)
+    across-last (loop .before .before .pre) (loop .loop .inv) (c .loop-test .left)
 
 pub row-spec : {M : Type 1} → statement M
 row-spec =

@@ -7,9 +7,10 @@ use lib.ListN.{length}
 use Rattle.rules.specs.declared.Screen.{Screen}
 use Rattle.rules.specs.Sizes.{colourAt, depthAt}
 use Rattle.rules.proofs.Pixels.{sound-facts, width-le, height-le, colour-fits, depth-fits}
+use Rattle.rows.specs.Lines.{line, writing}
 use Rattle.rows.specs.Pixels.{PixelDone, chunkFrom, WordAsked}
 use Rattle.rows.proofs.Stretch.{covered-on}
-use Rattle.rows.proofs.Running.{Turn, turn-first, turn-more, turn-last, length-now, some-left, on-screen, few-written}
+use Rattle.rows.proofs.Running.{next, Turn, turn-first, turn-more, turn-last, length-now, some-left, on-screen, few-written}
 use Rattle.rows.proofs.Running.{colour-from, depth-from}
 use Rattle.rows.proofs.pixels.enabled.Statement.{statement}
 use Rattle.rows.proofs.pixels.enabled.Tie as tie
@@ -17,10 +18,10 @@ use Rattle.rows.proofs.pixels.enabled.Tie as tie
 abbrev Inv-loop : tie.InvT-loop
 Inv-loop ram₀ t a y wide given colour depth v₀ on₀ written₀ i₀ ram v on written i =
     (s : Screen)
-    → WordAsked (length ram₀) s t y a wide given
+    → WordAsked (line s t y) a wide (writing ram₀ given)
     → colour ≡ colourAt s a y
     → depth ≡ depthAt s a y
-    → Turn ram₀ s t a y given ram v on written i
+    → Turn (line s t y) a (writing ram₀ given) (writing ram written) (next i v on)
 
 abbrev μ-loop : tie.MeasureT-loop
 μ-loop ram₀ t a y wide given colour depth v₀ on₀ written₀ i₀ ram v on written i = chunkFrom a - i
@@ -30,7 +31,8 @@ turn : (c : tie.At-loop Inv-loop μ-loop) →
     let places = c .before .before .before in
     let a = places .before .before .args in
     let l = c .loop in
-    Turn (a .ram .now) (a .s) (a .t) (a .a) (a .y) (a .given) (l .ram) (l .v) (l .on) (l .written) (l .i)
+    Turn (line (a .s) (a .t) (a .y)) (a .a) (writing (a .ram .now) (a .given)) (writing (l .ram) (l .written))
+    (next (l .i) (l .v) (l .on))
 turn c =
     let places = c .before .before .before in
     let q = places .before .before in
@@ -42,7 +44,7 @@ short : (c : tie.In-loop Inv-loop μ-loop) →
     c .before .loop .i < chunkFrom (places .before .before .args .a)
 short c =
     let places = c .before .before .before .before in
-    some-left _ _ _ _ _ _ _ (places .before .before .pre) _ _ _ _ _ (turn (c .before)) (c .loop-test .taken)
+    some-left (places .before .before .pre) (turn (c .before)) (c .loop-test .taken)
 
 -- the pixel's half-words are in the RAM
 fits : (c : tie.In-loop Inv-loop μ-loop) →
@@ -60,8 +62,8 @@ fits c =
     let a = q .args in
     let k = sound-facts (q .pre .is-sound) in
     let u = turn (c .before) in
-    let p = on-screen _ _ _ _ _ _ _ (q .pre) _ _ _ _ _ u (c .loop-test .taken) in
-    let e = length-now _ _ _ _ _ _ _ (q .pre) _ _ _ _ _ u in
+    let p = on-screen (q .pre) u (c .loop-test .taken) in
+    let e = length-now (q .pre) u in
     let i = colour-from (a .s) (a .a) (a .y) (l .i) (places .colour-at .ensures) in
     let j = depth-from (a .s) (a .a) (a .y) (l .i) (depth .ensures) in (
       subst₂ (λ (m n : ℕ). m + 1 < n) (sym i) (sym e) (colour-fits k p),
@@ -80,7 +82,7 @@ tints-at-requires c κs =
     let q = c .before .before .before in
     let a = q .args in
     let k = sound-facts (q .pre .is-sound) in
-    let p = covered-on (a .t) (a .s) (q .pre .begins) in
+    let p = covered-on (line (a .s) (a .t) (a .y)) (q .pre .begins) in
     (omega (arith, p .across, width-le k), omega (arith, p .down, height-le k))
 
 cast-on : tie.Need-cast-on Inv-loop μ-loop
@@ -90,10 +92,7 @@ shl-on : tie.Need-shl-on Inv-loop μ-loop
 shl-on c = omega arith
 
 loop-holds : tie.Need-loop-holds Inv-loop μ-loop
-loop-holds c =
-    let a = c .before .before .before .before .args in
-    let v = c .tints-at in
-    λ s asked i j. turn-first (a .ram .now) s (a .t) (a .a) (a .y) (a .wide) (a .given) asked (v .result) (v .ensures)
+loop-holds c = λ s asked i j. turn-first asked (c .tints-at .ensures)
 
 cast-past : tie.Need-cast-past Inv-loop μ-loop
 cast-past c = omega (arith, short c)
@@ -114,7 +113,7 @@ pixel-requires c κs =
     let places = loop .before .before .before in (
       fits test .0,
       fits test .1,
-      few-written _ _ _ _ _ _ _ (places .before .before .pre) _ _ _ _ _ (turn loop) (test .loop-test .taken),
+      few-written (places .before .before .pre) (turn loop) (test .loop-test .taken),
     )
 
 tints-right-requires : tie.Need-tints-right-requires Inv-loop μ-loop
@@ -140,21 +139,20 @@ loop-again c =
     let l = loop .loop in
     let f = pixel .pixel in
     λ s asked i j.
-    turn-more (a .ram .now) s (a .t) (a .a) (a .y) (a .wide) (a .given) asked (l .ram) (l .v) (l .on) (l .written) (l .i)
-    (l .inv s asked i j) (test .loop-test .taken) (f .result) (f .last .0) (c .tints-right .result)
-    (subst₂ (λ (m n : ℕ). PixelDone (l .ram) m n (l .v) (l .written) (f .result) (f .last .0))
+    turn-more asked (l .inv s asked i j) (test .loop-test .taken)
+    (subst₂ (λ (m n : ℕ). PixelDone m n (l .v) (writing (l .ram) (l .written)) (writing (f .last .0) (f .result)))
     (colour-from s (a .a) (a .y) (l .i) i) (depth-from s (a .a) (a .y) (l .i) j) (f .ensures))
     (c .tints-right .ensures)
 
 same-length : tie.Need-same-length Inv-loop μ-loop
 same-length c =
     let places = c .before .before .before .before in
-    length-now _ _ _ _ _ _ _ (places .before .before .pre) _ _ _ _ _ (turn (c .before))
+    length-now (places .before .before .pre) (turn (c .before))
 
 returns : tie.Need-returns Inv-loop μ-loop
 returns c =
     let places = c .before .before .before .before in
-    turn-last _ _ _ _ _ _ _ (places .before .before .pre) _ _ _ _ _ (turn (c .before)) (c .loop-test .left)
+    turn-last (places .before .before .pre) (turn (c .before)) (c .loop-test .left)
 
 pub enabled-spec : {M : Type 1} → statement M
 enabled-spec =
