@@ -19,7 +19,7 @@ use Rattle.pieces.specs.declared.state.View.{View}
 use Rattle.pieces.specs.Pieces.{joined, machine, at}
 use Rattle.pieces.specs.Steps.{stepped}
 use Rattle.pieces.proofs.Joined.{goes-onward}
-use Rattle.access.specs.Moves.{moveHalt}
+use Rattle.moves.specs.Halts.{moveHalt}
 
 pub move-fits : (ramLength word byte : ℕ) → moveHalt ramLength word byte ≡ 0 → (word ≤ 1008) × (byte + 64 ≤ ramLength)
 move-fits ramLength word byte e =

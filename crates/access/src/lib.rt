@@ -1,5 +1,6 @@
 // The instructions that touch the data memory: LD, ST and DOT, and READ and WRITE between it and the RAM.
 use alu::dot::dot;
+use moves::move_halt;
 use moves::read_words;
 use moves::write_words;
 use pieces::registers::address_in;
@@ -16,17 +17,12 @@ ghost use lib.ListN.{length};
 ghost use Rattle.instructions.specs.Opcodes.{LD, ST, DOT, READ, WRITE};
 ghost use Rattle.instructions.specs.Words.{opcode};
 ghost use Rattle.pieces.specs.Steps.{DataSteps, Going, Steps, plain};
-ghost use Rattle.access.specs.Moves.{moveHalt};
 
 // The last word of the data memory.
 const LAST: u32 = 1023;
 
-// The halts: of LD, ST and DOT; of READ and WRITE, for the address in data memory and for that in RAM.
+// The halt of LD, ST and DOT.
 const OUTSIDE: u32 = 13;
-
-const MOVE_OUTSIDE_DATA: u32 = 15;
-
-const MOVE_OUTSIDE_RAM: u32 = 16;
 
 pub fn do_ld(w: u32, memory: &[u32], regs: &mut [u32; 32], cpu: Cpu) -> Cpu
     requires { ⌜ (opcode w ≡ LD) × (length (now memory) ≡ 1024) × Going (now regs) cpu ⌝ }
@@ -62,19 +58,6 @@ pub fn do_dot(w: u32, memory: &[u32], regs: &mut [u32; 32], cpu: Cpu) -> Cpu
     }
     let v = dot(memory, a as usize, b as usize);
     put_result(w, regs, cpu, v)
-}
-
-// The halt of a READ or WRITE, 0 for none: `word` is its data address, `byte` its RAM address, `len` the RAM's length.
-fn move_halt(len: usize, word: u32, byte: u32) -> u32
-    ensures { λ r. ⌜ r ≡ moveHalt len word byte ⌝ }
-{
-    if 1008 < word {
-        return MOVE_OUTSIDE_DATA;
-    }
-    if (byte % 4 != 0) | (len < byte as usize + 64) {
-        return MOVE_OUTSIDE_RAM;
-    }
-    0
 }
 
 pub fn do_read(w: u32, regs: &[u32; 32], memory: &mut [u32], ram: &[u8], cpu: Cpu) -> Cpu

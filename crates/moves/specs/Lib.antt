@@ -1,0 +1,2 @@
+-- The halts of READ and WRITE.
+pub mod Halts

@@ -1,8 +1,8 @@
 -- Each test is the definition's, in its order.
 use borrow.Author.Tests.{lt-ltb, le-ltb}
 use borrow.Author.Needs.{needs}
-use Rattle.access.proofs.move_halt.Statement.{statement}
-use Rattle.access.proofs.move_halt.Tie as tie
+use Rattle.moves.proofs.move_halt.Statement.{statement}
+use Rattle.moves.proofs.move_halt.Tie as tie
 
 returns : tie.Need-returns
 returns c = rw (lt-ltb 1008 (c .before .args .word) (c .if1 .taken))
