@@ -30,7 +30,8 @@ const struct named workloads[] = {
     {"dot", "DOT loop"},
     {"raster", "rasterization loop, 640 by 480"},
     {"moves", "READ and WRITE of a whole screen"},
-    {"single", "arithmetic loop, one step a call"},
+    {"single", "arithmetic loop, a run of one step"},
+    {"step", "arithmetic loop, a step (C: a run of one step)"},
 };
 const int workload_count = sizeof workloads / sizeof workloads[0];
 
@@ -39,6 +40,7 @@ static size_t program_len, ram_len;
 static uint8_t *first_ram;
 static merikohin_state start;
 static uint64_t budget, calls;
+static int by_step; /* the engine is asked for steps and not for runs */
 
 static void emit(enum opcode op, uint32_t r1, uint32_t r2, uint32_t low)
 {
@@ -182,10 +184,11 @@ void prepare(const char *name)
         raster();
     } else if (!strcmp(name, "moves")) {
         moves();
-    } else if (!strcmp(name, "single")) {
+    } else if (!strcmp(name, "single") || !strcmp(name, "step")) {
         arithmetic();
         budget = 1;
         calls = 7000;
+        by_step = !strcmp(name, "step");
     } else {
         fprintf(stderr, "no such workload: %s\n", name);
         exit(2);
@@ -211,9 +214,23 @@ void first_state(int subject)
     o->steps = o->number = 0;
 }
 
+static void steps_measured(struct outcome *o)
+{
+    for (uint64_t k = 0; k < calls; k++) {
+        merikohin_stepped stepped = merikohin_step(program, program_len, o->memory, WORDS, o->ram, ram_len, o->state);
+        o->state = stepped.state;
+        o->steps += stepped.carried_out;
+        o->number |= stepped.number;
+    }
+}
+
 void measured(int subject)
 {
     struct outcome *o = &outcomes[subject];
+    if (by_step && subject == 0) {
+        steps_measured(o);
+        return;
+    }
     for (uint64_t k = 0; k < calls; k++) {
         merikohin_ran ran = runs[subject](program, program_len, o->memory, WORDS, o->ram, ram_len, o->state, budget);
         o->state = ran.state;

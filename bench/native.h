@@ -20,5 +20,6 @@ void native_clear(uint8_t *ram, size_t ram_len, const void *screen, uint32_t col
 void native_draw(uint8_t *ram, size_t ram_len, const void *screen, const void *triangle, void *drawn);
 void native_fresh(void *state);
 void native_run(const struct native_run *run, const void *state, void *ran);
+void native_step(const struct native_run *run, const void *state, void *stepped);
 
 #endif

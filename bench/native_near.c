@@ -31,3 +31,12 @@ merikohin_ran merikohin_run(const uint32_t *program, size_t program_len, uint32_
     native_run(&run, &state, &ran);
     return ran;
 }
+
+merikohin_stepped merikohin_step(const uint32_t *program, size_t program_len, uint32_t *memory, size_t memory_len, uint8_t *ram,
+                                 size_t ram_len, merikohin_state state)
+{
+    const struct native_run run = {program, program_len, memory, memory_len, ram, ram_len, 1};
+    merikohin_stepped stepped;
+    native_step(&run, &state, &stepped);
+    return stepped;
+}

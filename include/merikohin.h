@@ -25,11 +25,13 @@
  * with all lent memory as it was.
  *
  * Yes and no. A flag, a mark and every has_.. is 0 for no and anything else for
- * yes, and is answered as 0 or 1. Fields without meaning (a screen where there
- * is none, a tree where there is none, depths where none are held) are not
- * looked at, and a run leaves in them what was there; in a fresh state, and in
- * the depths of a tree that TREESET plants, that is 0. Padding is not looked
- * at, and an answer's padding may hold anything: compare fields, not bytes.
+ * yes. An accepted run or step answers 0 or 1 in all of them, also in a tree
+ * that is not there; a refused one answers what was given. Other fields without
+ * meaning (a screen where there is none, a tree where there is none, depths
+ * where none are held) are not looked at, and a run or a step leaves in them
+ * what was there; in a fresh state, and in the depths of a tree that TREESET
+ * plants, that is 0. Padding is not looked at, and an answer's padding may hold
+ * anything: compare fields, not bytes.
  */
 #ifndef MERIKOHIN_H
 #define MERIKOHIN_H
@@ -57,9 +59,11 @@
  * height from 1 to 480. Of anything else it is 0, which no screen has and every
  * call refuses with number 5. Both arguments are evaluated more than once. */
 #define MERIKOHIN_SIZE(width, height)                                            \
-    ((width) >= MERIKOHIN_GROUP && (width) <= MERIKOHIN_WIDTH_MOST &&            \
-             (width) % MERIKOHIN_GROUP == 0 && (height) >= 1 &&                  \
-             (height) <= MERIKOHIN_HEIGHT_MOST                                   \
+    ((int64_t)(width) >= MERIKOHIN_GROUP &&                                      \
+             (int64_t)(width) <= MERIKOHIN_WIDTH_MOST &&                         \
+             (int64_t)(width) % MERIKOHIN_GROUP == 0 &&                          \
+             (int64_t)(height) >= 1 &&                                           \
+             (int64_t)(height) <= MERIKOHIN_HEIGHT_MOST                          \
          ? (uint32_t)(width) / MERIKOHIN_GROUP * 512u + (uint32_t)(height)       \
          : (uint32_t)0)
 
@@ -297,7 +301,7 @@ static inline const char *merikohin_says(uint32_t number)
     switch (number) {
     case MERIKOHIN_DONE: return "done";
     case MERIKOHIN_PROGRAM_TOO_LONG: return "the program is longer than 1,024 words";
-    case MERIKOHIN_MEMORY_NOT_1024: return "the data memory has not 1,024 words";
+    case MERIKOHIN_MEMORY_NOT_1024: return "the data memory is not of 1,024 words";
     case MERIKOHIN_RAM_TOO_LONG: return "the RAM is longer than 4,194,304 bytes";
     case MERIKOHIN_STATE_ILL_FORMED: return "the machine state is ill-formed";
     case MERIKOHIN_SCREEN_NOT_SOUND: return "the screen is not sound";

@@ -89,7 +89,8 @@ static void any_address(void)
     HOLDS(merikohin_depth_row(ram, 256, s, 4).number == MERIKOHIN_ROW_OUT_OF_RANGE);
 }
 
-/* A fresh state has 0 in every field; a run leaves what was there in those that mean nothing. */
+/* A fresh state has 0 in every field; a run leaves what was there in those that mean nothing,
+ * but for yes and no, which become 1 and 0. */
 static void without_meaning(void)
 {
     static uint32_t memory[MERIKOHIN_MEMORY_WORDS];

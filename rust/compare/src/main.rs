@@ -9,8 +9,8 @@
 //! Every call is made on the engine and on the second program, each with its
 //! own copies of the memories; number, counts, row part, state, every word of
 //! data memory and every byte of RAM are compared after each. What a machine's
-//! runs do is done by single steps too, and must end the same. One line per
-//! group, and after each half `drawing: N comparisons, M mismatches` or
+//! runs do is done by its first single steps too; where these are all, they
+//! must end the same. One line per group, and after each half `drawing: N comparisons, M mismatches` or
 //! `machine: N comparisons, M mismatches`. The exit status is 0 if nothing
 //! mismatched, 1 if something did, 2 if the command line is wrong.
 

@@ -127,8 +127,9 @@ impl Eq for Tree {}
 
 /// A machine state. `registers[0]` is always 0. The flags, `has_screen` and
 /// `has_tree` are answered as 0 or 1; given, 0 is no and anything else is yes.
-/// The screen means nothing where there is none, nor does the tree; a run leaves
-/// in them what was there. Two states are equal where they mean the same;
+/// The screen means nothing where there is none, nor does the tree; an accepted
+/// run or step leaves in them what was there, but answers marks and `has_depth`
+/// as 0 or 1 there too. Two states are equal where they mean the same;
 /// [`State::same_fields`] looks at every field.
 ///
 /// A state is ill-formed exactly if `registers[0]` is not 0, the halt number is

@@ -236,15 +236,18 @@ mod tests {
         assert_eq!([at(&stepped.number), at(&stepped.carried_out), at(&stepped.state.registers[0])], [0, 4, 8]);
     }
 
-    /// The header's sentences and these are the same, and its constants too.
+    /// The sentences of the header, of the rule book and these are the same, and the header's constants too.
     #[test]
     fn says_what_the_header_says() {
         let header = std::fs::read_to_string("../../include/merikohin.h").unwrap();
+        let rules = std::fs::read_to_string("../../docs/RULES.md").unwrap();
         for refusal in Refusal::ALL {
+            assert!(rules.contains(&format!("| {} | {refusal} |", refusal.number())), "{refusal}");
             assert!(header.contains(&format!("return \"{refusal}\";")), "{refusal}");
             assert!(header.contains(&format!(" = {},", refusal.number())) || refusal.number() == 8);
         }
         for halt in Halt::ALL {
+            assert!(rules.contains(&format!("| {} | {halt} |", halt.number())), "{halt}");
             assert!(header.contains(&format!("return \"{halt}\";")), "{halt}");
         }
         for (name, value) in [

@@ -55,7 +55,7 @@ impl Refusal {
     pub const fn says(self) -> &'static str {
         match self {
             Refusal::ProgramTooLong => "the program is longer than 1,024 words",
-            Refusal::MemoryNot1024 => "the data memory has not 1,024 words",
+            Refusal::MemoryNot1024 => "the data memory is not of 1,024 words",
             Refusal::RamTooLong => "the RAM is longer than 4,194,304 bytes",
             Refusal::StateIllFormed => "the machine state is ill-formed",
             Refusal::ScreenNotSound => "the screen is not sound",

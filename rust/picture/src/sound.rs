@@ -35,7 +35,7 @@ pub fn recording(count: usize) -> Vec<i16> {
     (0..count).map(sample).collect()
 }
 
-/// The rows that a column fills on a panel of this height, from that of its
+/// The rows that a column fills in a strip of this height, from that of its
 /// largest sample to that of its smallest; none where it has no sample.
 pub fn rows(samples: &[i16], column: u32, height: u32) -> Option<(u32, u32)> {
     let first = (column * SAMPLES_A_COLUMN) as usize;

@@ -8,9 +8,9 @@ use crate::text::{self, Type};
 
 /// The first row of each part.
 const TOP: f64 = 344.0;
-const PANEL: f64 = 361.0;
-const PANEL_HIGH: u32 = 94;
-const RULER: f64 = PANEL + PANEL_HIGH as f64 + 1.0;
+const WAVE: f64 = 361.0;
+const WAVE_HIGH: u32 = 94;
+const RULER: f64 = WAVE + WAVE_HIGH as f64 + 1.0;
 
 /// Columns that a frame has.
 const FRAME_WIDE: f64 = (SAMPLES_A_FRAME / SAMPLES_A_COLUMN) as f64;
@@ -41,9 +41,9 @@ mod colour {
 
 pub fn draw(canvas: &mut Canvas) {
     frames(canvas);
-    panel(canvas);
+    waveform(canvas);
     ruler(canvas);
-    text::write(canvas, "FRAMES", (4.0, PANEL + 5.0), words(colour::CAPTION));
+    text::write(canvas, "FRAMES", (4.0, WAVE + 5.0), words(colour::CAPTION));
     text::write(canvas, "SAMPLES", (4.0, RULER - 6.0 - text::HIGH), words(colour::CAPTION));
     canvas.rect((0.0, TOP), (f64::from(WIDTH), f64::from(HEIGHT) - TOP), depth::GROUND, flat(colour::GROUND));
 }
@@ -54,7 +54,7 @@ fn words(colour: Colour) -> Type {
 
 /// The frames' numbers, each over its own columns.
 fn frames(canvas: &mut Canvas) {
-    let size = (FRAME_WIDE - 1.0, PANEL - TOP - 1.0);
+    let size = (FRAME_WIDE - 1.0, WAVE - TOP - 1.0);
     for frame in 0..FRAMES {
         let left = f64::from(sound::frame_starts(frame).1);
         let (ground, word) = match frame == FRAME {
@@ -68,14 +68,14 @@ fn frames(canvas: &mut Canvas) {
 
 /// The sound, a bar a column in one colour; the shown frame's columns lighter
 /// behind it, and the cursor on the first of them.
-fn panel(canvas: &mut Canvas) {
+fn waveform(canvas: &mut Canvas) {
     let samples = sound::recording((WIDTH * SAMPLES_A_COLUMN) as usize);
-    let (left, high) = (f64::from(sound::frame_starts(FRAME).1), f64::from(PANEL_HIGH));
-    canvas.rect((left, PANEL), (FRAME_WIDE, high), depth::SHOWN, flat(colour::SHOWN));
-    canvas.rect((left, PANEL - 1.0), (1.0, high + 10.0), depth::CURSOR, flat(colour::CURSOR));
+    let (left, high) = (f64::from(sound::frame_starts(FRAME).1), f64::from(WAVE_HIGH));
+    canvas.rect((left, WAVE), (FRAME_WIDE, high), depth::SHOWN, flat(colour::SHOWN));
+    canvas.rect((left, WAVE - 1.0), (1.0, high + 10.0), depth::CURSOR, flat(colour::CURSOR));
     for column in 0..WIDTH {
-        if let Some((top, bottom)) = sound::rows(&samples, column, PANEL_HIGH) {
-            let at = (f64::from(column), PANEL + f64::from(top));
+        if let Some((top, bottom)) = sound::rows(&samples, column, WAVE_HIGH) {
+            let at = (f64::from(column), WAVE + f64::from(top));
             canvas.rect(at, (1.0, f64::from(bottom - top + 1)), depth::TRACE, flat(colour::TRACE));
         }
     }

@@ -128,7 +128,7 @@ mod tests {
     use super::*;
 
     #[test]
-    fn as_the_issue_has_it() {
+    fn as_the_page_has_it() {
         let problem = Problem::refused(Refusal::VertexOutOfRange, "x1 = 8192").at(Place::line("scene.txt", 7));
         let says = "6: a vertex number is outside -8192..8191: x1 = 8192 (scene.txt, line 7)";
         assert_eq!(problem.to_string(), says);

@@ -113,7 +113,8 @@ fn halted(machine: &Machine, halt: Halt, file: &str) -> Problem {
 /// The state at the end: steps, place, halt, what is not 0.
 fn told(machine: &Machine) -> String {
     let state = &machine.state;
-    let mut text = format!("{} steps, place {}, halt {}", machine.steps, state.place, state.halt);
+    let steps = if machine.steps == 1 { "step" } else { "steps" };
+    let mut text = format!("{} {steps}, place {}, halt {}", machine.steps, state.place, state.halt);
     for (name, set) in [("negative", state.negative), ("zero", state.zero)] {
         if set != 0 {
             text += &format!(", {name}");

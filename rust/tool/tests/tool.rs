@@ -148,7 +148,7 @@ fn refusals() {
 #[test]
 fn halts() {
     let ended = written("halt12.s", "LI R1, 5 ; and on past the end\n");
-    assert_eq!(done(&["run", &ended]), "1 steps, place 1, halt 12\nR1 = 00000005 (5)\n");
+    assert_eq!(done(&["run", &ended]), "1 step, place 1, halt 12\nR1 = 00000005 (5)\n");
     let cases = [
         (11, ".word 0xa4000000", ".word 0xa4000000"),
         (13, "LD R1, 1024", "LD R1, R0(1024)"),
