@@ -18,7 +18,7 @@ use Rattle.border.specs.declared.LentState.{LentState}
 use Rattle.border.specs.Lent.{stateOf, lentState}
 use Rattle.border.proofs.Back.{lent-marks, state-back}
 use Rattle.lends.specs.Lends.{Lent, machineOf, LentOutcome, RunsLent, StepsLent}
-use Rattle.lends.specs.Again.{joined, joinedAll}
+use Rattle.lends.specs.Again.{inTurn, allInTurn}
 use Rattle.lends.proofs.Lends.{runs-of-equal}
 use Rattle.lends.proofs.Stepping.{step-is-run}
 use Rattle.lends.proofs.Unique.{runs-lent-unique}
@@ -63,10 +63,10 @@ module _ {program : List ℕ} {m n : ℕ} {l : Lent} {p q : LentOutcome}
       same-number : q .number ≡ p .number
       same-number = same-call .runs .answers ∙ sym (first .runs .answers)
 
-  pub runs-lent-add : (q .number ≡ p .number) × RunsLent program (m + n) l (joined p q)
+  pub runs-lent-add : (q .number ≡ p .number) × RunsLent program (m + n) l (inTurn p q)
   runs-lent-add = go (ℕ-discrete (p .number) 0)
     where
-      go : Dec (p .number ≡ 0) → (q .number ≡ p .number) × RunsLent program (m + n) l (joined p q)
+      go : Dec (p .number ≡ 0) → (q .number ≡ p .number) × RunsLent program (m + n) l (inTurn p q)
       go (yes e) =
           let mid : Machine = together (first .after) (p .left .memory) (p .left .ram) in
           let end : Machine = together (second .after) (q .left .memory) (q .left .ram) in
@@ -104,24 +104,24 @@ module _ {program : List ℕ} {m n : ℕ} {l : Lent} {p q : LentOutcome}
           )
 
   -- so a call of m + n steps, where the 64 bits of its count hold the sum, answers and leaves what the two did
-  pub one-call-for-two : {r : LentOutcome} → RunsLent program (m + n) l r → r ≡ joined p q
+  pub one-call-for-two : {r : LentOutcome} → RunsLent program (m + n) l r → r ≡ inTurn p q
   one-call-for-two c = runs-lent-unique c (runs-lent-add .1)
 
 -- single steps in turn, each from what the one before left, are one run
 module _ (program : List ℕ) (l : Lent) (o : ℕ → LentOutcome) (first : StepsLent program l (o 0)) where
-  last-left : (n : ℕ) → joinedAll o n .left ≡ o n .left
-  unfolding joinedAll
+  last-left : (n : ℕ) → allInTurn o n .left ≡ o n .left
+  unfolding allInTurn
   last-left zero = refl
   last-left (suc n) = refl
 
-  pub run-is-steps : (n : ℕ)
+  pub run-lent-is-steps : (n : ℕ)
       → ((i : ℕ) → i < n → StepsLent program (o i .left) (o (suc i)))
-      → RunsLent program (n + 1) l (joinedAll o n)
-  unfolding joinedAll
-  run-is-steps zero h = step-is-run first
-  run-is-steps (suc n) h =
-      let before : RunsLent program (n + 1) l (joinedAll o n) = run-is-steps n (λ i a. h i (omega arith)) in
+      → RunsLent program (n + 1) l (allInTurn o n)
+  unfolding allInTurn
+  run-lent-is-steps zero h = step-is-run first
+  run-lent-is-steps (suc n) h =
+      let before : RunsLent program (n + 1) l (allInTurn o n) = run-lent-is-steps n (λ i a. h i (omega arith)) in
       let next : StepsLent program (o n .left) (o (suc n)) = h n (omega arith) in
-      let from : StepsLent program (joinedAll o n .left) (o (suc n)) =
+      let from : StepsLent program (allInTurn o n .left) (o (suc n)) =
       subst (λ k. StepsLent program k (o (suc n))) (sym (last-left n)) next in
-      subst (λ k. RunsLent program k l (joinedAll o (suc n))) (omega arith) (runs-lent-add before (step-is-run from) .1)
+      subst (λ k. RunsLent program k l (allInTurn o (suc n))) (omega arith) (runs-lent-add before (step-is-run from) .1)

@@ -3,9 +3,9 @@
 use Prim.Native.Nat.{ℕ, zero, suc, _+_}
 use Rattle.lends.specs.Lends.{LentOutcome}
 
-abbrev pub joined : LentOutcome → LentOutcome → LentOutcome
-joined p q = record { number = q .number; count = p .count + q .count; left = q .left }
+abbrev pub inTurn : LentOutcome → LentOutcome → LentOutcome
+inTurn p q = record { number = q .number; count = p .count + q .count; left = q .left }
 
-unfoldable pub joinedAll : (ℕ → LentOutcome) → ℕ → LentOutcome
-joinedAll o zero = o 0
-joinedAll o (suc n) = joined (joinedAll o n) (o (suc n))
+unfoldable pub allInTurn : (ℕ → LentOutcome) → ℕ → LentOutcome
+allInTurn o zero = o 0
+allInTurn o (suc n) = inTurn (allInTurn o n) (o (suc n))

@@ -37,12 +37,12 @@ pub record LentOutcome : Type 0 where
   pub count : ℕ
   pub left : Lent
 
-abbrev pub ran : LentRan → List ℕ → List ℕ → LentOutcome
-ran r memory ram = record { number = r .number; count = r .steps; left = lent (r .state) memory ram }
+abbrev pub runOutcome : LentRan → List ℕ → List ℕ → LentOutcome
+runOutcome r memory ram = record { number = r .number; count = r .steps; left = lent (r .state) memory ram }
 
 -- of a single step, 1 where it was carried out and else 0
-abbrev pub stepped : LentStepped → List ℕ → List ℕ → LentOutcome
-stepped r memory ram = record { number = r .number; count = r .carried; left = lent (r .state) memory ram }
+abbrev pub stepOutcome : LentStepped → List ℕ → List ℕ → LentOutcome
+stepOutcome r memory ram = record { number = r .number; count = r .carried; left = lent (r .state) memory ram }
 
 abbrev pub answered : ℕ → LentState → State → LentState
 answered number given after = choose (eqb number 0) (lentState after) given

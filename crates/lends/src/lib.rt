@@ -4,7 +4,7 @@ use border::lent_state;
 use border::state_of;
 use machine::calls::run_accepted;
 use states::machine_number;
-ghost use Rattle.lends.specs.Lends.{RunsLent, lent, ran};
+ghost use Rattle.lends.specs.Lends.{RunsLent, lent, runOutcome};
 
 // What a run answers: its number, the steps carried out, and the state.
 #[repr(C)]
@@ -22,7 +22,7 @@ pub fn run_lent(
     state: LentState,
     budget: u64,
 ) -> LentRan
-    ensures { λ r. ⌜ RunsLent (now (program .entry)) budget (lent state (now (memory .entry)) (now (ram .entry))) (ran r (now (memory .exit)) (now (ram .exit))) ⌝ }
+    ensures { λ r. ⌜ RunsLent (now (program .entry)) budget (lent state (now (memory .entry)) (now (ram .entry))) (runOutcome r (now (memory .exit)) (now (ram .exit))) ⌝ }
 {
     let given = state_of(state);
     let number = machine_number(program.len(), memory.len(), ram.len(), given);

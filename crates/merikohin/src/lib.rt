@@ -12,7 +12,7 @@ ghost use lib.ListN.{length};
 ghost use Rattle.rules.specs.Sizes.{colourAt, depthAt, pixel};
 ghost use Rattle.rules.specs.Calls.{Clears, Draws};
 ghost use Rattle.reader.specs.Rows.{Checks, Locates};
-ghost use Rattle.lends.specs.Lends.{Lends, RunsLent, StepsLent, lent, ran, stepped};
+ghost use Rattle.lends.specs.Lends.{Lends, RunsLent, StepsLent, lent, runOutcome, stepOutcome};
 
 #[no_mangle]
 pub extern "C" fn merikohin_clear(ram: &mut [u8], s: Screen, colour: u16, depth: u16) -> u32
@@ -64,7 +64,7 @@ pub extern "C" fn merikohin_run(
     state: LentState,
     budget: u64,
 ) -> LentRan
-    ensures { λ r. ⌜ RunsLent (now (program .entry)) budget (lent state (now (memory .entry)) (now (ram .entry))) (ran r (now (memory .exit)) (now (ram .exit))) ⌝ }
+    ensures { λ r. ⌜ RunsLent (now (program .entry)) budget (lent state (now (memory .entry)) (now (ram .entry))) (runOutcome r (now (memory .exit)) (now (ram .exit))) ⌝ }
 {
     run_lent(program, memory, ram, state, budget)
 }
@@ -77,7 +77,7 @@ pub extern "C" fn merikohin_step(
     ram: &mut [u8],
     state: LentState,
 ) -> LentStepped
-    ensures { λ r. ⌜ StepsLent (now (program .entry)) (lent state (now (memory .entry)) (now (ram .entry))) (stepped r (now (memory .exit)) (now (ram .exit))) ⌝ }
+    ensures { λ r. ⌜ StepsLent (now (program .entry)) (lent state (now (memory .entry)) (now (ram .entry))) (stepOutcome r (now (memory .exit)) (now (ram .exit))) ⌝ }
 {
     let end = merikohin_run(program, memory, ram, state, 1);
     let last = end.state;
