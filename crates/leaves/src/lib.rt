@@ -11,14 +11,14 @@ ghost use Rattle.instructions.specs.Words.{signed};
 ghost use Rattle.instructions.specs.Tree.{refusesPlace, treeSet, pastLeaves, treeIn, replaced, treeColour};
 
 // TREESET's test of a place.
-pub fn refuses(s: Screen, column: u32, row: u32) -> bool
+pub fn refuses_place(s: Screen, column: u32, row: u32) -> bool
     ensures { λ r. ⌜ r ≡ refusesPlace s column row ⌝ }
 {
     !((column % 16 == 0) & (column < width(s.size)) & (row < height(s.size)))
 }
 
 // TREESET's tree. Bit 15 of the mask is for leaf 0.
-pub fn planted(column: u32, row: u32, mask: u32) -> Tree
+pub fn tree_set(column: u32, row: u32, mask: u32) -> Tree
     ensures { λ r. ⌜ r ≡ treeSet column row mask ⌝ }
 {
     let mut inside = [false; 16];

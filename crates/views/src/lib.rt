@@ -3,8 +3,8 @@ use alu::fields::imm;
 use alu::fields::r1;
 use instructions::Tree;
 use leaves::past_leaves;
-use leaves::planted;
-use leaves::refuses;
+use leaves::tree_set;
+use leaves::refuses_place;
 use leaves::tree_colour;
 use leaves::tree_in;
 use pieces::registers::in_r1;
@@ -15,8 +15,8 @@ use pieces::state::Cpu;
 use pieces::state::View;
 use pieces::state::onward;
 use pieces::state::stopped;
-use pieces::state::with_screen;
-use pieces::state::with_tree;
+use pieces::state::screened;
+use pieces::state::treed;
 use rules::Screen;
 use screen::clear::clear;
 use screen::sizes::sound;
@@ -78,7 +78,7 @@ pub fn do_scrset(w: u32, regs: &[u32; 32], cpu: Cpu, view: View, ram: &[u8]) -> 
     if !sound(ram.len(), screen) {
         return stop(cpu, view, NO_SCREEN);
     }
-    go(cpu, with_screen(view, screen))
+    go(cpu, screened(view, screen))
 }
 
 fn low_half(v: u32) -> u16
@@ -115,11 +115,11 @@ pub fn do_treeset(w: u32, regs: &[u32; 32], cpu: Cpu, view: View) -> Turn
     if !view.shown {
         return stop(cpu, view, NO_SCREEN);
     }
-    if refuses(screen, column, row) {
+    if refuses_place(screen, column, row) {
         return stop(cpu, view, NO_TREE);
     }
-    let tree = planted(column, row, in_r3(regs, w));
-    go(cpu, with_tree(view, tree))
+    let tree = tree_set(column, row, in_r3(regs, w));
+    go(cpu, treed(view, tree))
 }
 
 // TREEIN and TREEVAL with the tree that they leave, which was worked out of the registers as they still are here.
@@ -129,7 +129,7 @@ fn grow(w: u32, regs: &mut [u32; 32], cpu: Cpu, view: View, tree: Tree) -> Turn
 {
     let past = past_leaves(in_r1(regs, w), in_r2(regs, w));
     put(regs, r1(w), past);
-    go(cpu, with_tree(view, tree))
+    go(cpu, treed(view, tree))
 }
 
 pub fn do_treein(w: u32, regs: &mut [u32; 32], cpu: Cpu, view: View) -> Turn
