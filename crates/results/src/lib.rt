@@ -1,7 +1,7 @@
 // The instructions that put a result of the registers in r1: LI, and ADD to ASRI.
 use alu::arithmetic::difference;
-use alu::arithmetic::rounded_product;
 use alu::arithmetic::reciprocal;
+use alu::arithmetic::rounded_product;
 use alu::arithmetic::shifted_left;
 use alu::arithmetic::shifted_right;
 use alu::arithmetic::shifted_signed;

@@ -1,4 +1,4 @@
--- `refuses_place` makes the three tests of `refusesPlace`. Assumes nothing.
+-- `refuses_place` makes the three tests of `refusesPlace`.
 use Prim.Native.Nat.{ℕ, _%_}
 use mathlib.Core.Path.{ap₂}
 use mathlib.Core.Bool.{_&&_, not}

@@ -1,4 +1,4 @@
--- `tree_set` gives TREESET's tree: the loop fills the marks leaf by leaf, so they are `leaves` of the mask's bits. Assumes nothing.
+-- `tree_set` gives TREESET's tree: the loop fills the marks leaf by leaf, so they are `leaves` of the mask's bits.
 use Prim.Native.Nat.{_-_, _≤_}
 use mathlib.Core.Path.{_≡_, refl}
 use mathlib.Core.Bool.{false, not}
