@@ -12,14 +12,14 @@ pub fn difference(a: u32, b: u32) -> u32
 }
 
 // A signed shift rounds down, also below zero.
-pub fn mulf(a: u32, b: u32) -> u32
+pub fn rounded_product(a: u32, b: u32) -> u32
     ensures { λ r. ⌜ r ≡ roundedProduct a b ⌝ }
 {
     low32((signed(a) * signed(b)) >> 16)
 }
 
 // A signed quotient rounds toward zero.
-pub fn recp(a: u32) -> u32
+pub fn reciprocal(a: u32) -> u32
     ensures { λ r. ⌜ r ≡ reciprocal a ⌝ }
 {
     if a == 0 {
@@ -53,13 +53,13 @@ pub fn shifted_signed(a: u32, b: u32) -> u32
     low32(signed(a) >> shift_amount(b))
 }
 
-pub fn negative(v: u32) -> bool
+pub fn negative_flag(v: u32) -> bool
     ensures { λ r. ⌜ r ≡ negativeFlag v ⌝ }
 {
     2147483648 <= v
 }
 
-pub fn zero(v: u32) -> bool
+pub fn zero_flag(v: u32) -> bool
     ensures { λ r. ⌜ r ≡ zeroFlag v ⌝ }
 {
     v == 0

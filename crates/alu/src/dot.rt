@@ -1,5 +1,5 @@
 // DOT: four products of words in data memory, each rounded before they are added.
-use crate::arithmetic::mulf;
+use crate::arithmetic::rounded_product;
 use words::sum32;
 ghost use mathlib.Core.Path.{_≡_};
 ghost use Prim.Native.Nat.{_+_, _<_};
@@ -10,7 +10,7 @@ fn term(memory: &[u32], a: usize, b: usize, i: usize) -> u32
     requires { ⌜ (a + i < length (now memory)) × (b + i < length (now memory)) ⌝ }
     ensures { λ r. ⌜ r ≡ dotTerm (now (memory .entry)) a b i ⌝ }
 {
-    mulf(memory[a + i], memory[b + i])
+    rounded_product(memory[a + i], memory[b + i])
 }
 
 pub fn dot(memory: &[u32], a: usize, b: usize) -> u32

@@ -35,7 +35,7 @@ pub fn imm(w: u32) -> u32
 }
 
 // The low half, sign-extended: imm of a word, and what LI loads of an address. Moved up and down again as in `signed`.
-pub fn sign_extended(n: u32) -> u32
+pub fn immediate(n: u32) -> u32
     ensures { λ r. ⌜ r ≡ immediate n ⌝ }
 {
     (((n as u64 + 32768) % 65536 + 4294934528) % 4294967296) as u32
@@ -45,5 +45,5 @@ pub fn sign_extended(n: u32) -> u32
 pub fn address(base: u32, w: u32) -> u32
     ensures { λ r. ⌜ r ≡ sum base (signExtended (imm w)) ⌝ }
 {
-    sum32(base, sign_extended(w))
+    sum32(base, immediate(w))
 }

@@ -1,5 +1,5 @@
--- The one law of the leaf loops, over any f: an array that a loop fills leaf by leaf has, after k turns, what f says of each leaf below k,
--- and from k on what it had; after sixteen turns it is `leaves f`.
+-- The one law of the leaf loops, over any f: an array that a loop fills leaf by leaf has, after k passes, what f says of each leaf below k,
+-- and from k on what it had; after sixteen passes it is `leaves f`.
 use Prim.Native.Nat.{ℕ, zero, suc, _+_, _<_}
 use mathlib.Core.Path.{_≡_, refl, sym, _∙_, ap, ap₂}
 use mathlib.Core.List.{List, [], _∷_, _++_, append-nil}
@@ -10,7 +10,7 @@ use lib.ListN.{length, getD, set, drop, drop-of-length-le}
 use Rattle.instructions.specs.Tree.{each, leaves}
 
 module _ {A : Type 0} where
-  -- `after` is the array `before` after k turns
+  -- `after` is the array `before` after k passes
   pub record Filled (f : ℕ → A) (k : ℕ) (before after : List A) : Type 0 where
     pub sixteen : length before ≡ 16
     pub is : after ≡ each f k ++ drop k before
@@ -32,7 +32,7 @@ module _ {A : Type 0} where
   filled-none h = record { sixteen = h; is = refl }
 
   module _ {f : ℕ → A} {k : ℕ} {before after : List A} (p : Filled f k before after) where
-    -- what turn k finds at its leaf is what the array had
+    -- what pass k finds at its leaf is what the array had
     pub filled-kept : (d : A) → k < 16 → getD after k d ≡ getD before k d
     filled-kept d h = ap (λ t. getD t k d) (p .is) ∙ get-next f k before d (omega (arith, p .sixteen))
 

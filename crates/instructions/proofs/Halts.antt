@@ -115,9 +115,9 @@ module _ {edition : Edition} {ramLength : ℕ} {s : State} {w : ℕ} (h : NoHalt
   unfolding noTree
   TREEVAL-planted e = not-false (s .planted) (or-none (not (s .planted)) (ltb 3 (imm w)) (rw e at (h .treeThere)) .0)
 
-  pub TREEVAL-part : opcode w ≡ TREEVAL → imm w ≤ 3
+  pub TREEVAL-kind : opcode w ≡ TREEVAL → imm w ≤ 3
   unfolding noTree
-  TREEVAL-part e = ltb-false 3 (imm w) (or-none (not (s .planted)) (ltb 3 (imm w)) (rw e at (h .treeThere)) .1)
+  TREEVAL-kind e = ltb-false 3 (imm w) (or-none (not (s .planted)) (ltb 3 (imm w)) (rw e at (h .treeThere)) .1)
 
   pub TREEPUT-planted : opcode w ≡ TREEPUT → s .planted ≡ true
   unfolding noTree

@@ -39,14 +39,14 @@ module _ {A : Type 0} where
   leaves-same {f} {g} h = each-same f g 16 h
 
 -- what a leaf holds
-pub record Holds : Type 0 where
+pub record LeafHolds : Type 0 where
   pub inside : Bool
   pub outside : Bool
   pub colour : ℕ
   pub depth : ℕ
 
 -- leaf k of a tree, whole
-pub record Leaf (t : Tree) (k : ℕ) (l : Holds) : Type 0 where
+pub record Leaf (t : Tree) (k : ℕ) (l : LeafHolds) : Type 0 where
   pub markedI : markI t k ≡ l .inside
   pub markedO : markO t k ≡ l .outside
   pub coloured : leafColour t k ≡ l .colour
@@ -96,20 +96,20 @@ module _ {k : ℕ} (h : k < 16) where
         deep = leaf-at (λ i. topHalf (leafValue a b i)) 0 h;
       }
 
-      pub leaf-TREEVAL-colour : (part : ℕ) → eqb part 0 ≡ false
-          → Leaf (treeVal part s ram a b t) k
+      pub leaf-TREEVAL-colour : (kind : ℕ) → eqb kind 0 ≡ false
+          → Leaf (treeVal kind s ram a b t) k
           (record {
             inside = markI t k;
             outside = markO t k;
-            colour = replaced part (leafValue a b k) (leafColour t k);
+            colour = replaced kind (leafValue a b k) (leafColour t k);
             depth = leafDepth t k;
           })
       unfolding treeVal treeColour
-      leaf-TREEVAL-colour part e =
+      leaf-TREEVAL-colour kind e =
           rw e (record {
             markedI = refl;
             markedO = refl;
-            coloured = leaf-at (λ i. replaced part (leafValue a b i) (leafColour t i)) 0 h;
+            coloured = leaf-at (λ i. replaced kind (leafValue a b i) (leafColour t i)) 0 h;
             deep = refl;
           })
 
@@ -127,11 +127,11 @@ module _ (a b : ℕ) (t : Tree) where
   unfolding treeVal treeDepth marked deepened
   held-TREEVAL-depth s ram = refl
 
-  pub held-TREEVAL-colour : (s : Screen) (ram : List ℕ) (part : ℕ)
-      → eqb part 0 ≡ false
-      → treeVal part s ram a b t .held ≡ t .held
+  pub held-TREEVAL-colour : (s : Screen) (ram : List ℕ) (kind : ℕ)
+      → eqb kind 0 ≡ false
+      → treeVal kind s ram a b t .held ≡ t .held
   unfolding treeVal treeColour
-  held-TREEVAL-colour s ram part e = rw e
+  held-TREEVAL-colour s ram kind e = rw e
 
 -- r1 goes on where leaf 16 would be, and with one register for both it is 17 times what it was
 pub past-leaves : (a b : ℕ) → pastLeaves a b ≡ leafValue a b 16

@@ -118,7 +118,7 @@ run-keeps-lengths edition program (suc n) m =
 pub record TreesKeep (P : Tree → Type 0) : Type 0 where
   pub byTREESET : (column row mask : ℕ) → P (treeSet column row mask)
   pub byTREEIN : (a b : ℕ) (t : Tree) → P t → P (treeIn a b t)
-  pub byTREEVAL : (part : ℕ) (s : Screen) (ram : List ℕ) (a b : ℕ) (t : Tree) → P t → P (treeVal part s ram a b t)
+  pub byTREEVAL : (kind : ℕ) (s : Screen) (ram : List ℕ) (a b : ℕ) (t : Tree) → P t → P (treeVal kind s ram a b t)
 
 module _ (P : Tree → Type 0) (kept : TreesKeep P) where
   effect-keeps-tree : (m : Machine) (w : ℕ) → P (m .state .tree) → P (effect m w .state .tree)
@@ -172,8 +172,8 @@ unfolding treeSet treeIn treeVal treeDepth marked deepened treeColour
 marks-kept = record {
   byTREESET = λ column row mask. record { marksI = length-each (maskBit mask) 16; marksO = length-each _ 16 };
   byTREEIN = λ a b t h. record { marksI = length-each _ 16; marksO = length-each _ 16 };
-  byTREEVAL = λ part s ram a b t h.
-      pick SixteenMarks (eqb part 0)
+  byTREEVAL = λ kind s ram a b t h.
+      pick SixteenMarks (eqb kind 0)
       (λ e. record { marksI = length-each _ 16; marksO = length-each _ 16 })
       (λ e. record { marksI = h .marksI; marksO = h .marksO });
 }
@@ -192,7 +192,7 @@ sixteen-kept = record {
     depths = length-each _ 16;
   };
   byTREEIN = λ a b t h. record { marks = marks-kept .byTREEIN a b t (h .marks); colours = h .colours; depths = h .depths };
-  byTREEVAL = λ part s ram a b t h. pick Sixteen (eqb part 0)
+  byTREEVAL = λ kind s ram a b t h. pick Sixteen (eqb kind 0)
       (λ e. record {
         marks = record { marksI = length-each _ 16; marksO = length-each _ 16 };
         colours = h .colours;

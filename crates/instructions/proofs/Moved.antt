@@ -12,7 +12,7 @@ use Rattle.ram.proofs.Words.{length-storeWord, word-stored-same, word-stored-ot
 use Rattle.ram.specs.Ram.{loadWord}
 use Rattle.instructions.specs.Moves.{wordRead, wordsRead, wordWritten, wordsWritten}
 
--- the last of n + 1 turns, or one before it
+-- the last of n + 1 passes, or one before it
 last : (i n : ℕ) → i < suc n → (i < n) ⊎ (i ≡ n)
 last i n l = go (decLt i n)
   where

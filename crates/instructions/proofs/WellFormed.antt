@@ -69,14 +69,14 @@ module _ {ramLength : ℕ} {s : State} where
       place = none-and (s .planted) (refusesPlace (s .screen) (s .tree .column) (s .tree .row)) (h .treePlace)
 
 -- the tree's place stays, but for TREESET
-module _ (part : ℕ) (s : Screen) (ram : List ℕ) (a b : ℕ) (t : Tree) where
-  treeVal-column : treeVal part s ram a b t .column ≡ t .column
+module _ (kind : ℕ) (s : Screen) (ram : List ℕ) (a b : ℕ) (t : Tree) where
+  treeVal-column : treeVal kind s ram a b t .column ≡ t .column
   unfolding treeVal treeDepth marked deepened treeColour
-  treeVal-column = pick (λ (u : Tree). u .column ≡ t .column) (eqb part 0) (λ e. refl) (λ e. refl)
+  treeVal-column = pick (λ (u : Tree). u .column ≡ t .column) (eqb kind 0) (λ e. refl) (λ e. refl)
 
-  treeVal-row : treeVal part s ram a b t .row ≡ t .row
+  treeVal-row : treeVal kind s ram a b t .row ≡ t .row
   unfolding treeVal treeDepth marked deepened treeColour
-  treeVal-row = pick (λ (u : Tree). u .row ≡ t .row) (eqb part 0) (λ e. refl) (λ e. refl)
+  treeVal-row = pick (λ (u : Tree). u .row ≡ t .row) (eqb kind 0) (λ e. refl) (λ e. refl)
 
 module _ {ramLength : ℕ} {s : State} (h : WellFormed ramLength s) where
   -- the registers change, but for R0

@@ -118,25 +118,25 @@ blueOf c = c % 32
 
 -- "1, 2, 3 replace red, green, blue": "red and blue are bits 16 to 20, green bits 16 to 21"
 unfoldable pub replaced : ℕ → ℕ → ℕ → ℕ
-replaced part v c =
-    choose (eqb part 1) (colourOf (topHalf v % 32) (greenOf c) (blueOf c))
-    (choose (eqb part 2) (colourOf (redOf c) (topHalf v % 64) (blueOf c))
+replaced kind v c =
+    choose (eqb kind 1) (colourOf (topHalf v % 32) (greenOf c) (blueOf c))
+    (choose (eqb kind 2) (colourOf (redOf c) (topHalf v % 64) (blueOf c))
     (colourOf (redOf c) (greenOf c) (topHalf v % 32)))
 
 unfoldable pub treeColour : ℕ → ℕ → ℕ → Tree → Tree
-treeColour part a b t = record {
+treeColour kind a b t = record {
   column = t .column;
   row = t .row;
   inside = t .inside;
   outside = t .outside;
-  colour = leaves (λ k. replaced part (leafValue a b k) (leafColour t k));
+  colour = leaves (λ k. replaced kind (leafValue a b k) (leafColour t k));
   depth = t .depth;
   held = t .held;
 }
 
 -- TREEVAL, by its imm
 unfoldable pub treeVal : ℕ → Screen → List ℕ → ℕ → ℕ → Tree → Tree
-treeVal part s ram a b t = choose (eqb part 0) (treeDepth s ram a b t) (treeColour part a b t)
+treeVal kind s ram a b t = choose (eqb kind 0) (treeDepth s ram a b t) (treeColour kind a b t)
 
 -- "TREEPUT writes each leaf with I = 1 or O = 0: its colour always, its depth only if one is held."
 abbrev pub isPut : Tree → ℕ → Bool

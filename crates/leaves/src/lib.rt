@@ -11,14 +11,14 @@ ghost use Rattle.instructions.specs.Words.{signed};
 ghost use Rattle.instructions.specs.Tree.{refusesPlace, treeSet, pastLeaves, treeIn, replaced, treeColour};
 
 // TREESET's test of a place.
-pub fn refuses(s: Screen, column: u32, row: u32) -> bool
+pub fn refuses_place(s: Screen, column: u32, row: u32) -> bool
     ensures { λ r. ⌜ r ≡ refusesPlace s column row ⌝ }
 {
     !((column % 16 == 0) & (column < width(s.size)) & (row < height(s.size)))
 }
 
 // TREESET's tree. Bit 15 of the mask is for leaf 0.
-pub fn planted(column: u32, row: u32, mask: u32) -> Tree
+pub fn tree_set(column: u32, row: u32, mask: u32) -> Tree
     ensures { λ r. ⌜ r ≡ treeSet column row mask ⌝ }
 {
     let mut inside = [false; 16];
@@ -86,23 +86,23 @@ pub fn tree_in(tree: Tree, a: u32, b: u32) -> Tree
     }
 }
 
-// One part of a colour: 1 is red, 2 is green, and any other blue.
-fn replaced(part: u32, v: u32, c: u16) -> u16
-    ensures { λ r. ⌜ r ≡ replaced part v c ⌝ }
+// A colour with what the kind says replaced: 1 is red, 2 is green, and any other blue.
+fn replaced(kind: u32, v: u32, c: u16) -> u16
+    ensures { λ r. ⌜ r ≡ replaced kind v c ⌝ }
 {
     let top = (v / 65536) as u16;
-    if part == 1 {
+    if kind == 1 {
         return top % 32 * 2048 + c / 32 % 64 * 32 + c % 32;
     }
-    if part == 2 {
+    if kind == 2 {
         return c / 2048 * 2048 + top % 64 * 32 + c % 32;
     }
     c / 2048 * 2048 + c / 32 % 64 * 32 + top % 32
 }
 
 // TREEVAL 1, 2 and 3.
-pub fn tree_colour(tree: Tree, part: u32, a: u32, b: u32) -> Tree
-    ensures { λ r. ⌜ r ≡ treeColour part a b tree ⌝ }
+pub fn tree_colour(tree: Tree, kind: u32, a: u32, b: u32) -> Tree
+    ensures { λ r. ⌜ r ≡ treeColour kind a b tree ⌝ }
 {
     let inside = tree.inside;
     let outside = tree.outside;
@@ -111,7 +111,7 @@ pub fn tree_colour(tree: Tree, part: u32, a: u32, b: u32) -> Tree
     let mut v = a;
     for k in 0..16 {
         let next = sum32(v, b);
-        colour[k] = replaced(part, v, colour[k]);
+        colour[k] = replaced(kind, v, colour[k]);
         v = next;
     }
     Tree {

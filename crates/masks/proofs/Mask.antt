@@ -142,7 +142,7 @@ masks-same f g e h =
       fourth = h .fourth ∙ mask-same (λ k. f (48 + k)) (λ k. g (48 + k)) 16 (λ k l. e (48 + k) (omega arith));
     }
 
--- A word whose top n bits are a mask, all others clear: its top bit is the first leaf, and doubled it is the mask without that leaf.
+-- A word of 64 bits whose top n are a mask, all others clear: its top bit is the first leaf, and doubled it is the mask without that leaf.
 abbrev pub Left : (ℕ → Bool) → ℕ → ℕ → Type 0
 Left f n on = on ≡ maskOf f n * 2 ^ (64 - n)
 

@@ -16,7 +16,7 @@ use Rattle.rules.specs.Sizes.{width, height}
 use Rattle.rules.specs.Triangles.{Point, edge1, edge2, edge3, edgeValue, positive, insideAll, sample, covered, coveredPixels, doubledArea}
 use Rattle.rules.proofs.Folds.{pixels-none}
 use Rattle.rules.proofs.Closing.{no-value-below, not-three-zeros}
-use Rattle.order.specs.Sides.{Side, first, second, third}
+use Rattle.order.specs.Sides.{Which, first, second, third}
 use Rattle.order.specs.Sides.{turnedTwin}
 use Rattle.order.proofs.Sides.{inside-covered}
 
@@ -92,14 +92,14 @@ module _ (t : Triangle) where
   abbrev whole : Exp
   whole = areaE (var 0) (var 1) (var 2) (var 3) (var 4) (var 5)
 
-  pub turned-area : (i : Side) → doubledArea (turnedTwin i t .vertices) ≡ negℤ (doubledArea (t .vertices))
+  pub turned-area : (i : Which) → doubledArea (turnedTwin i t .vertices) ≡ negℤ (doubledArea (t .vertices))
   unfolding doubledArea
   turned-area first = solve ρ₆ (areaE (var 2) (var 3) (var 0) (var 1) (var 4) (var 5)) (neg whole) tt
   turned-area second = solve ρ₆ (areaE (var 0) (var 1) (var 4) (var 5) (var 2) (var 3)) (neg whole) tt
   turned-area third = solve ρ₆ (areaE (var 4) (var 5) (var 2) (var 3) (var 0) (var 1)) (neg whole) tt
 
   -- one of the two covers nothing, on any screen
-  pub one-covers-none : (i : Side)
+  pub one-covers-none : (i : Which)
       → ((s : Screen) (x y : ℕ) → covered t s x y ≡ false) ⊎ ((s : Screen) (x y : ℕ) → covered (turnedTwin i t) s x y ≡ false)
   one-covers-none i = go (positive (doubledArea (t .vertices))) refl
     where

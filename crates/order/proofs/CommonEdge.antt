@@ -17,7 +17,7 @@ use Rattle.rules.specs.Sizes.{sound}
 use Rattle.rules.specs.Triangles.{Point, Edge, edgeValue, inside, sample, covered}
 use Rattle.rules.specs.Calls.{Draws}
 use Rattle.order.specs.Order.{SameInBothOrders}
-use Rattle.order.specs.Sides.{Side, side, turned, HasLength}
+use Rattle.order.specs.Sides.{Which, side, turned, HasLength}
 use Rattle.order.specs.CommonEdge.{Between, RunsAlong, InCommon}
 use Rattle.order.proofs.Sides.{inside-side}
 use Rattle.order.proofs.Turned.{turned-length, exactly-one-side}
@@ -75,7 +75,7 @@ same-ends e l = record {
   other = along-itself (turned e) (turned-length e l);
 }
 
-module _ (a b : Triangle) (i j : Side) (common : InCommon (side a i) (side b j)) where
+module _ (a b : Triangle) (i j : Which) (common : InCommon (side a i) (side b j)) where
   pub none-in-common : (s : Screen) (x y : ℕ) → covered a s x y ≡ true → covered b s x y ≡ true → ⊥
   none-in-common s x y p q =
       true≢false (sym (inside-side b s x y j q) ∙ opposite-inside common (sample x y) ∙ ap not (inside-side a s x y i p))

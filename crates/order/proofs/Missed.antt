@@ -6,13 +6,13 @@ use mathlib.Core.Bool.{Bool, true, false, not, _&&_}
 use Rattle.rules.specs.declared.Screen.{Screen}
 use Rattle.rules.specs.declared.Triangle.{Triangle}
 use Rattle.rules.specs.Triangles.{inside, onScreen, sample, covered}
-use Rattle.order.specs.Sides.{Side, side, insideOthers}
+use Rattle.order.specs.Sides.{Which, side, insideOthers}
 use Rattle.order.specs.CommonEdge.{InCommon}
 use Rattle.order.proofs.Sides.{inside-from, covered-screen}
 use Rattle.order.proofs.CommonEdge.{opposite-inside}
 
 -- between its other two sides a pixel is covered as the one side says
-by-one-side : (t : Triangle) (s : Screen) (x y : ℕ) (i : Side)
+by-one-side : (t : Triangle) (s : Screen) (x y : ℕ) (i : Which)
     → onScreen s x y ≡ true
     → insideOthers t i (sample x y) ≡ true
     → covered t s x y ≡ inside (side t i) (sample x y)
@@ -26,7 +26,7 @@ by-one-side t s x y i o h =
     whole true = refl
     whole false = refl
 
-module _ (a b : Triangle) (i j : Side) (common : InCommon (side a i) (side b j)) where
+module _ (a b : Triangle) (i j : Which) (common : InCommon (side a i) (side b j)) where
   pub covered-by-one : (s : Screen) (x y : ℕ)
       → onScreen s x y ≡ true
       → insideOthers a i (sample x y) ≡ true

@@ -1,4 +1,4 @@
--- A drawn triangle and a clear are what their pixel-by-pixel readings say, and nothing else is: the cells are known from the turns, and
+-- A drawn triangle and a clear are what their pixel-by-pixel readings say, and nothing else is: the cells are known from the passes, and
 -- two memories with equal cells and equal bytes elsewhere are equal.
 use Prim.Native.Nat.{ℕ, _+_, _<_}
 use mathlib.Core.Path.{_≡_, refl, sym, _∙_, ap}

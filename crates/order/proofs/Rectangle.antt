@@ -20,7 +20,7 @@ use Rattle.rules.specs.Triangles.{Point, Edge, edgeValue, inside, insideAll, on
 use Rattle.rules.proofs.Pixels.{and-l, and-r}
 use Rattle.rules.proofs.Closing.{value-le}
 use Rattle.order.specs.Sides.{side, next, insideOthers, turned}
-use Rattle.order.specs.Rectangle.{edgeFrom, Corners, Rectangle, inRectangle, Split, falling, rising}
+use Rattle.order.specs.Rectangle.{edgeBetween, Corners, Rectangle, inRectangle, Split, falling, rising}
 use Rattle.order.specs.Rectangle.{leftTop, rightTop, rightBottom, leftBottom}
 use Rattle.order.proofs.Sides.{inside-from, covered-screen, covered-none}
 use Rattle.order.proofs.Turned.{exactly-one-side}
@@ -30,21 +30,21 @@ use Rattle.order.proofs.Counts.{pixels-sum}
 -- three corners
 
 module _ {t : Triangle} {p q r : Point} (c : Corners t p q r) (z : Point) where
-  corners-inside : insideAll (t .vertices) z ≡ inside (edgeFrom p q) z && (inside (edgeFrom q r) z && inside (edgeFrom r p) z)
+  corners-inside : insideAll (t .vertices) z ≡ inside (edgeBetween p q) z && (inside (edgeBetween q r) z && inside (edgeBetween r p) z)
   corners-inside =
       inside-from t (c .from) z
       ∙ ap (λ e. inside e z && insideOthers t (c .from) z) (c .one)
-      ∙ ap (λ e. inside (edgeFrom p q) z && (inside e z && inside (side t (next (next (c .from)))) z)) (c .two)
-      ∙ ap (λ e. inside (edgeFrom p q) z && (inside (edgeFrom q r) z && inside e z)) (c .three)
+      ∙ ap (λ e. inside (edgeBetween p q) z && (inside e z && inside (side t (next (next (c .from)))) z)) (c .two)
+      ∙ ap (λ e. inside (edgeBetween p q) z && (inside (edgeBetween q r) z && inside e z)) (c .three)
 
   inside-corners : insideAll (t .vertices) z ≡ true
-      → (inside (edgeFrom p q) z ≡ true) × (inside (edgeFrom q r) z ≡ true) × (inside (edgeFrom r p) z ≡ true)
+      → (inside (edgeBetween p q) z ≡ true) × (inside (edgeBetween q r) z ≡ true) × (inside (edgeBetween r p) z ≡ true)
   inside-corners h =
       let a = sym corners-inside ∙ h in
-      let b = and-r (inside (edgeFrom p q) z) (inside (edgeFrom q r) z && inside (edgeFrom r p) z) a in (
-        and-l (inside (edgeFrom p q) z) (inside (edgeFrom q r) z && inside (edgeFrom r p) z) a,
-        and-l (inside (edgeFrom q r) z) (inside (edgeFrom r p) z) b,
-        and-r (inside (edgeFrom q r) z) (inside (edgeFrom r p) z) b,
+      let b = and-r (inside (edgeBetween p q) z) (inside (edgeBetween q r) z && inside (edgeBetween r p) z) a in (
+        and-l (inside (edgeBetween p q) z) (inside (edgeBetween q r) z && inside (edgeBetween r p) z) a,
+        and-l (inside (edgeBetween q r) z) (inside (edgeBetween r p) z) b,
+        and-r (inside (edgeBetween q r) z) (inside (edgeBetween r p) z) b,
       )
 
 -- the rectangle's sides and diagonals
@@ -95,16 +95,16 @@ module _ (a : Rectangle) (p : Point) where
   rightE = (var 2 ⊖ var 4) ⊗ (var 3 ⊖ var 1)
 
   abbrev topSide : Edge
-  topSide = edgeFrom (leftTop a) (rightTop a)
+  topSide = edgeBetween (leftTop a) (rightTop a)
 
   abbrev rightSide : Edge
-  rightSide = edgeFrom (rightTop a) (rightBottom a)
+  rightSide = edgeBetween (rightTop a) (rightBottom a)
 
   abbrev bottomSide : Edge
-  bottomSide = edgeFrom (rightBottom a) (leftBottom a)
+  bottomSide = edgeBetween (rightBottom a) (leftBottom a)
 
   abbrev leftSide : Edge
-  leftSide = edgeFrom (leftBottom a) (leftTop a)
+  leftSide = edgeBetween (leftBottom a) (leftTop a)
 
   top-value : edgeValue topSide p ≡ fromTop
   unfolding edgeValue
@@ -174,10 +174,10 @@ module _ (a : Rectangle) (p : Point) where
   )
 
   abbrev fallingBack : Edge
-  fallingBack = edgeFrom (rightBottom a) (leftTop a)
+  fallingBack = edgeBetween (rightBottom a) (leftTop a)
 
   abbrev risingBack : Edge
-  risingBack = edgeFrom (rightTop a) (leftBottom a)
+  risingBack = edgeBetween (rightTop a) (leftBottom a)
 
   -- inside two sides and a diagonal, in its two directions: within all four
 

@@ -8,7 +8,7 @@ use Rattle.rules.specs.declared.Triangle.{Triangle}
 use Rattle.rules.specs.Triangles.{Point, Edge, dx, dy, edgeValue, positive, isZero, negative, keepsZero, inside, insideAll}
 use Rattle.rules.specs.Triangles.{onScreen, sample, covered}
 use Rattle.rules.proofs.Pixels.{and-l, and-r}
-use Rattle.order.specs.Sides.{Side, first, second, third, side, insideOthers}
+use Rattle.order.specs.Sides.{Which, first, second, third, side, insideOthers}
 
 abbrev pub within : ℤ → ℤ → ℤ → Bool
 within value across down = positive value || isZero value && (negative down || isZero down && positive across)
@@ -31,7 +31,7 @@ grouped : (a b c : Bool) → a && b && c ≡ a && (b && c)
 grouped true b c = refl
 grouped false b c = refl
 
-pub inside-from : (t : Triangle) (i : Side) (p : Point) → insideAll (t .vertices) p ≡ inside (side t i) p && insideOthers t i p
+pub inside-from : (t : Triangle) (i : Which) (p : Point) → insideAll (t .vertices) p ≡ inside (side t i) p && insideOthers t i p
 unfolding insideAll
 inside-from t first p = grouped (inside (side t first) p) (inside (side t second) p) (inside (side t third) p)
 inside-from t second p = round (inside (side t first) p) (inside (side t second) p) (inside (side t third) p)
@@ -57,7 +57,7 @@ module _ (t : Triangle) (s : Screen) (x y : ℕ) where
       never true = refl
       never false = refl
 
-  pub inside-side : (i : Side) → covered t s x y ≡ true → inside (side t i) (sample x y) ≡ true
+  pub inside-side : (i : Which) → covered t s x y ≡ true → inside (side t i) (sample x y) ≡ true
   inside-side i e =
       and-l (inside (side t i) (sample x y)) (insideOthers t i (sample x y))
       (sym (inside-from t i (sample x y)) ∙ inside-covered e)

@@ -14,8 +14,8 @@ use Rattle.rules.specs.Triangles.{covered, triangleColour, triangleDepth, drawn
 abbrev pub SameInBothOrders : Triangle → Triangle → Screen → List ℕ → Type 0
 SameInBothOrders a b s m = drawn b s (drawn a s m) ≡ drawn a s (drawn b s m)
 
-abbrev pub storedDepth : List ℕ → Screen → ℕ → ℕ → ℕ
-storedDepth m s x y = loadHalf m (depthAt s x y)
+abbrev pub depthUnder : List ℕ → Screen → ℕ → ℕ → ℕ
+depthUnder m s x y = loadHalf m (depthAt s x y)
 
 -- a covered pixel is one of the screen: no bound on x and y is missing here
 abbrev pub Compatible : Triangle → Triangle → Screen → List ℕ → Type 0
@@ -24,5 +24,5 @@ Compatible a b s m =
     → covered a s x y ≡ true
     → covered b s x y ≡ true
     → (triangleDepth a x y ≢ triangleDepth b x y)
-    ⊎ ((storedDepth m s x y < triangleDepth a x y) × (storedDepth m s x y < triangleDepth b x y))
+    ⊎ ((depthUnder m s x y < triangleDepth a x y) × (depthUnder m s x y < triangleDepth b x y))
     ⊎ (triangleColour a x y ≡ triangleColour b x y)

@@ -6,17 +6,17 @@ use lib.IntN.{ℤ}
 use lib.Signed.{leZ, ltZ, _<ℤ_}
 use Rattle.rules.specs.declared.Triangle.{Triangle}
 use Rattle.rules.specs.Triangles.{Point, Edge}
-use Rattle.order.specs.Sides.{Side, side, next}
+use Rattle.order.specs.Sides.{Which, side, next}
 
-abbrev pub edgeFrom : Point → Point → Edge
-edgeFrom p q = record { x1 = p .px; y1 = p .py; x2 = q .px; y2 = q .py }
+abbrev pub edgeBetween : Point → Point → Edge
+edgeBetween p q = record { x1 = p .px; y1 = p .py; x2 = q .px; y2 = q .py }
 
 -- the triangle's vertices are p, q and r in this order, of which any may be its first
 pub record Corners (t : Triangle) (p q r : Point) : Type 0 where
-  pub from : Side
-  pub one : side t from ≡ edgeFrom p q
-  pub two : side t (next from) ≡ edgeFrom q r
-  pub three : side t (next (next from)) ≡ edgeFrom r p
+  pub from : Which
+  pub one : side t from ≡ edgeBetween p q
+  pub two : side t (next from) ≡ edgeBetween q r
+  pub three : side t (next (next from)) ≡ edgeBetween r p
 
 pub record Rectangle : Type 0 where
   pub left : ℤ

@@ -48,9 +48,9 @@ pick₂ R t {x} {y} {x′} {y′} p q = go t p q
 -- TREEVAL judges by equal depths
 module _ (p : Starts) (s : Screen) (r r′ : List ℕ) (same : SamePixels s r (screenAt p s) r′)
     (t : Tree) (place : refusesPlace s (t .column) (t .row) ≡ false) (a b : ℕ) where
-  judged-alike : (part : ℕ) → treeVal part (screenAt p s) r′ a b t ≡ treeVal part s r a b t
+  judged-alike : (kind : ℕ) → treeVal kind (screenAt p s) r′ a b t ≡ treeVal kind s r a b t
   unfolding treeVal
-  judged-alike part = ap (λ u. choose (eqb part 0) u (treeColour part a b t)) depths
+  judged-alike kind = ap (λ u. choose (eqb kind 0) u (treeColour kind a b t)) depths
     where
       stored : (k : ℕ) → k < 16 → storedDepth (screenAt p s) r′ t k ≡ storedDepth s r t k
       stored k h = let on = leaf-on s (t .column) (t .row) place h in sym (same (t .column + k) (t .row) (on .across) (on .down) .1)

@@ -6,16 +6,14 @@ use mathlib.Core.Bool.{true, false}
 use mathlib.Core.List.{List}
 use native.Mathlib.Omega.{arith}
 use lib.ListN.{length}
-use lib.Dec.{leb}
 use borrow.Author.Tests.{lt-leb, le-leb, ne-eqb}
 use Rattle.rules.specs.Folds.{choose}
-use Rattle.instructions.specs.Opcodes.{current, ST, LI, ASRI, JMP, CALL, JGEL}
+use Rattle.instructions.specs.Opcodes.{current, ST, LI, ASRI, JMP, CALL}
 use Rattle.instructions.specs.Words.{opcode, r1, address, withRegister}
 use Rattle.instructions.specs.Arithmetic.{result, setsFlags}
 use Rattle.instructions.specs.Jumps.{goes, isJump, nextPlace}
 use Rattle.instructions.specs.Halts.{wordHalt}
 use Rattle.instructions.specs.Step.{Machine, withRegisters, withPlace, withFlags, withHalt, afterResult, afterCALL, effect, performed}
-use Rattle.instructions.proofs.Picks.{none-and}
 use Rattle.instructions.proofs.Effects.{effect-result, effect-CALL, effect-jump}
 use Rattle.pieces.specs.declared.state.Cpu.{Cpu}
 use Rattle.pieces.specs.declared.state.View.{View}
@@ -23,12 +21,9 @@ use Rattle.pieces.specs.Pieces.{joined, machine, at, stopped, resulted}
 use Rattle.pieces.specs.Steps.{stepped, RegisterSteps}
 use Rattle.pieces.proofs.Cases.{case-none}
 
--- what is no jump: what sets the flags, and what stands before the jumps or after them
+-- what stands before the jumps is none
 pub no-jump-below : (op : ℕ) → op < JMP → isJump op ≡ false
 no-jump-below op h = rw (lt-leb JMP op h)
-
-pub no-jump-above : (op : ℕ) → JGEL < op → isJump op ≡ false
-no-jump-above op h = none-and (leb JMP op) (leb op JGEL) (λ e. lt-leb op JGEL h)
 
 module _ (regs : List ℕ) (cpu : Cpu) (view : View) (memory ram : List ℕ) (w : ℕ) where
   abbrev before : Machine

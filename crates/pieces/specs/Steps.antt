@@ -54,24 +54,24 @@ RegisterSteps w regs cpu regs′ cpu′ =
     (memory ram : List ℕ) → Steps w (plain regs cpu memory ram) (plain regs′ cpu′ memory ram)
 
 -- what an instruction from SCRSET on touches
-pub record Scene : Type 0 where
+pub record Viewing : Type 0 where
   pub regs : List ℕ
   pub cpu : Cpu
   pub view : View
   pub ram : List ℕ
 
-abbrev pub scene : List ℕ → Cpu → View → List ℕ → Scene
-scene regs cpu view ram = record { regs = regs; cpu = cpu; view = view; ram = ram }
+abbrev pub viewing : List ℕ → Cpu → View → List ℕ → Viewing
+viewing regs cpu view ram = record { regs = regs; cpu = cpu; view = view; ram = ram }
 
 -- its step, which may be a halt, whatever the data memory holds
-abbrev pub ViewSteps : ℕ → Scene → Scene → Type 0
+abbrev pub ViewSteps : ℕ → Viewing → Viewing → Type 0
 ViewSteps w s s′ =
     (memory : List ℕ)
     → machine (s′ .regs) (s′ .cpu) (s′ .view) memory (s′ .ram)
     ≡ stepped (machine (s .regs) (s .cpu) (s .view) memory (s .ram)) w
 
 -- of one that leaves the RAM alone, whatever it holds
-abbrev pub TreeSteps : ℕ → (List ℕ → Scene) → (List ℕ → Scene) → Type 0
+abbrev pub TreeSteps : ℕ → (List ℕ → Viewing) → (List ℕ → Viewing) → Type 0
 TreeSteps w s s′ = (ram : List ℕ) → ViewSteps w (s ram) (s′ ram)
 
 -- the screen and the tree of a well-formed state, in a RAM that is not too long

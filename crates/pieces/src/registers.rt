@@ -1,7 +1,7 @@
 // The registers that a word names, the address, and a write, which R0 loses.
 use crate::state::Cpu;
-use alu::arithmetic::negative;
-use alu::arithmetic::zero;
+use alu::arithmetic::negative_flag;
+use alu::arithmetic::zero_flag;
 use alu::fields::address;
 use alu::fields::r1;
 use alu::fields::r2;
@@ -53,8 +53,8 @@ pub fn put_result(w: u32, regs: &mut [u32; 32], cpu: Cpu, v: u32) -> Cpu
     put(regs, r1(w), v);
     Cpu {
         place: cpu.place + 1,
-        negative: negative(v),
-        zero: zero(v),
+        negative: negative_flag(v),
+        zero: zero_flag(v),
         halt: cpu.halt,
     }
 }

@@ -97,7 +97,7 @@ pub fn stopped(cpu: Cpu, number: u32) -> Cpu
 }
 
 // The tree's fields stay, and mean nothing.
-pub fn with_screen(view: View, screen: Screen) -> View
+pub fn screened(view: View, screen: Screen) -> View
     ensures { λ r. ⌜ r ≡ screened screen view ⌝ }
 {
     let tree = view.tree;
@@ -109,7 +109,7 @@ pub fn with_screen(view: View, screen: Screen) -> View
     }
 }
 
-pub fn with_tree(view: View, tree: Tree) -> View
+pub fn treed(view: View, tree: Tree) -> View
     ensures { λ r. ⌜ r ≡ treed tree view ⌝ }
 {
     let screen = view.screen;

@@ -1,4 +1,4 @@
-// The planes' values at a pixel, two planes to a word, and their steps to the right.
+// The planes' values at a pixel, two planes to a word of 64 bits, and their steps to the right.
 use rules::Plane;
 use rules::Triangle;
 use std::num::wrapping_add_u64;

@@ -1,12 +1,12 @@
 // The instructions that put a result of the registers in r1: LI, and ADD to ASRI.
 use alu::arithmetic::difference;
-use alu::arithmetic::mulf;
-use alu::arithmetic::recp;
+use alu::arithmetic::reciprocal;
+use alu::arithmetic::rounded_product;
 use alu::arithmetic::shifted_left;
 use alu::arithmetic::shifted_right;
 use alu::arithmetic::shifted_signed;
 use alu::fields::imm;
-use alu::fields::sign_extended;
+use alu::fields::immediate;
 use pieces::registers::address_in;
 use pieces::registers::in_r2;
 use pieces::registers::in_r3;
@@ -23,7 +23,7 @@ pub fn do_li(w: u32, regs: &mut [u32; 32], cpu: Cpu) -> Cpu
     requires { ⌜ (opcode w ≡ LI) × Going (now regs) cpu ⌝ }
     ensures { λ r. ⌜ RegisterSteps w (now (regs .entry)) cpu (now (regs .exit)) r ⌝ }
 {
-    let v = sign_extended(address_in(regs, w));
+    let v = immediate(address_in(regs, w));
     put_result(w, regs, cpu, v)
 }
 
@@ -55,7 +55,7 @@ pub fn do_mulf(w: u32, regs: &mut [u32; 32], cpu: Cpu) -> Cpu
     requires { ⌜ (opcode w ≡ MULF) × Going (now regs) cpu ⌝ }
     ensures { λ r. ⌜ RegisterSteps w (now (regs .entry)) cpu (now (regs .exit)) r ⌝ }
 {
-    let v = mulf(in_r2(regs, w), in_r3(regs, w));
+    let v = rounded_product(in_r2(regs, w), in_r3(regs, w));
     put_result(w, regs, cpu, v)
 }
 
@@ -63,7 +63,7 @@ pub fn do_recp(w: u32, regs: &mut [u32; 32], cpu: Cpu) -> Cpu
     requires { ⌜ (opcode w ≡ RECP) × Going (now regs) cpu ⌝ }
     ensures { λ r. ⌜ RegisterSteps w (now (regs .entry)) cpu (now (regs .exit)) r ⌝ }
 {
-    let v = recp(in_r2(regs, w));
+    let v = reciprocal(in_r2(regs, w));
     put_result(w, regs, cpu, v)
 }
 

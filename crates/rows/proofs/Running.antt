@@ -1,6 +1,6 @@
--- The loop over a word's pixels: what holds after k of them, that it holds at the first one, and that one pixel more keeps it. The word's
--- top bit says whether pixel k is covered; a covered one is written where the code's test of the depth says so, and after the last one
--- there is none.
+-- The loop over the pixels of a word of 64 bits: what holds after k of them, that it holds at the first one, and that one pixel more keeps
+-- it. The word's top bit says whether pixel k is covered; a covered one is written where the code's test of the depth says so, and after
+-- the last one there is none.
 use Prim.Native.Nat.{ℕ, _+_, _*_, _-_, _%_, _^_, _≤_, _<_}
 use mathlib.Core.Path.{_≡_, refl, sym, _∙_, ap, ap₂, subst}
 use mathlib.Core.Bool.{Bool, true, false}
@@ -35,7 +35,7 @@ module _ (s : Screen) (x y i : ℕ) {a : ℕ} where
   pub depth-from : a ≡ depthAt s x y → a + 2 * i ≡ depthAt s (x + i) y
   depth-from h = omega (arith, depth-in-area s x y, depth-in-area s (x + i) y)
 
--- the pixel that a turn is about: how many stand before it, its tints, and the word with its bit on top
+-- the pixel that a pass is about: how many stand before it, its tints, and the word with its bit on top
 pub record Next : Type 0 where
   pub past : ℕ
   pub tints : Tints
@@ -44,7 +44,7 @@ pub record Next : Type 0 where
 abbrev pub next : ℕ → Tints → ℕ → Next
 next past tints on = record { past = past; tints = tints; on = on }
 
-pub record Turn (l : Line) (x : ℕ) (w₀ w : Writing) (n : Next) : Type 0 where
+pub record Pass (l : Line) (x : ℕ) (w₀ w : Writing) (n : Next) : Type 0 where
   pub in-chunk : n .past ≤ chunkFrom x
   pub is-left : Left (λ j. coveredIn l (x + (n .past + j))) (chunkFrom x - n .past) (n .on)
   pub is-tints : n .tints ≡ tintsAt (l .triangle) (x + n .past) (l .row)
@@ -56,8 +56,8 @@ module _ {l : Line} {x wide : ℕ} {w₀ : Writing} (q : WordAsked l x wide w₀
   facts = sound-facts (q .is-sound)
 
   -- the columns before x are shifted out
-  pub turn-first : {v : Tints} → v ≡ tintsAt (l .triangle) x (l .row) → Turn l x w₀ w₀ (next 0 v (wide * 2 ^ (x % 16) % 2 ^ 64))
-  turn-first e =
+  pub pass-first : {v : Tints} → v ≡ tintsAt (l .triangle) x (l .row) → Pass l x w₀ w₀ (next 0 v (wide * 2 ^ (x % 16) % 2 ^ 64))
+  pass-first e =
       let all : chunkFrom x ≡ chunkFrom x - 0 = omega arith in
       record {
         in-chunk = omega arith;
@@ -73,7 +73,7 @@ module _ {l : Line} {x wide : ℕ} {w₀ : Writing} (q : WordAsked l x wide w₀
         is-written = omega (arith, howMany-none (λ i. writtenIn l (w₀ .ram) (x + i)) 0 (λ i h. absurd (omega arith)));
       }
 
-  module _ {w : Writing} {k on : ℕ} {v : Tints} (u : Turn l x w₀ w (next k v on)) where
+  module _ {w : Writing} {k on : ℕ} {v : Tints} (u : Pass l x w₀ w (next k v on)) where
     pub length-now : length (w .ram) ≡ length (w₀ .ram)
     length-now = ap length (u .is-memory) ∙ length-stretch l x k (w₀ .ram)
 
@@ -92,8 +92,8 @@ module _ {l : Line} {x wide : ℕ} {w₀ : Writing} (q : WordAsked l x wide w₀
           go true e = e ∙ sym (sym here ∙ no-gap e)
           go false e = e
 
-      pub turn-last : WordDone l x w₀ w
-      turn-last =
+      pub pass-last : WordDone l x w₀ w
+      pass-last =
           let n = chunkFrom x in
           let m = w₀ .ram in
           let f : ℕ → Bool = λ i. writtenIn l m (x + i) in
@@ -172,12 +172,12 @@ module _ {l : Line} {x wide : ℕ} {w₀ : Writing} (q : WordAsked l x wide w₀
           ∙ ap (λ (n : List ℕ). choose p n (w .ram))
           (storeHalf-comm (w .ram) depthHere newDepth colourHere newColour (apart-sym (colour-depth-apart facts on-screen on-screen)))
 
-      pub turn-more : {w′ : Writing} {v′ : Tints}
+      pub pass-more : {w′ : Writing} {v′ : Tints}
           → PixelDone colourHere depthHere v w w′
           → v′ ≡ tintsMoved v (tintSteps (l .triangle))
-          → Turn l x w₀ w′ (next (k + 1) v′ (on * 2 % 2 ^ 64))
+          → Pass l x w₀ w′ (next (k + 1) v′ (on * 2 % 2 ^ 64))
       unfolding pixelDrawn
-      turn-more d e =
+      pass-more d e =
           let t = l .triangle in
           let i : x + k + 1 ≡ x + (k + 1) = omega arith in
           let n : chunkFrom x - k - 1 ≡ chunkFrom x - (k + 1) = omega arith in

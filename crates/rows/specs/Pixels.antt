@@ -1,4 +1,4 @@
--- What drawing one pixel and the pixels of a word promises.
+-- What drawing one pixel and the pixels of a word of 64 bits promises.
 use Prim.Native.Nat.{ℕ, _+_, _-_, _%_, _<_}
 use mathlib.Core.Path.{_≡_}
 use mathlib.Core.Bool.{Bool, true}
@@ -31,7 +31,7 @@ chunkAt a = a - a % 16
 abbrev pub chunkFrom : ℕ → ℕ
 chunkFrom a = 64 - a % 16
 
--- the bits of the word are the covered pixels of a's chunk, and a's is set
+-- the bits of the word of 64 are the covered pixels of a's chunk, and a's is set
 pub record WordAsked (l : Line) (a wide : ℕ) (before : Writing) : Type 0 where
   pub is-sound : sound (length (before .ram)) (l .screen) ≡ true
   pub row : l .row < height (l .screen .size)

@@ -1,4 +1,4 @@
-// Drawing a row of a triangle in lent memory: pixel, word of pixels, row.
+// Drawing a row of a triangle in lent memory: pixel, chunk, row.
 pub mod chunks;
 pub mod pixels;
 

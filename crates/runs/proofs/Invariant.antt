@@ -115,8 +115,8 @@ module _ {program : List ℕ} {budget : ℕ} {first : Machine} {done : ℕ} {m :
         uncounted true e h =
             absurd (false≢true (sym (counted-goes-on current program m e) ∙ ap isHalted (sym s) ∙ h))
 
-    pub kept-turn : m′ .state .halt ≡ 0 → Kept program budget first (done + 1) m′
-    kept-turn h =
+    pub kept-pass : m′ .state .halt ≡ 0 → Kept program budget first (done + 1) m′
+    kept-pass h =
         let b : isCounted current program m ≡ true = counted (isCounted current program m) refl in
         let left : ℕ = steps current program (budget - (done + 1)) m′ in
         let e : done + (bit true + left) ≡ steps current program budget first = rw b at count-on in

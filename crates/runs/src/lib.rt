@@ -49,9 +49,9 @@ pub fn run(
             }
             steps += 1;
         } else {
-            let turn = view_step(w, regs, cpu, view, ram);
-            cpu = turn.cpu;
-            view = turn.view;
+            let next = view_step(w, regs, cpu, view, ram);
+            cpu = next.cpu;
+            view = next.view;
             if cpu.halt != 0 {
                 return Ended { cpu, view, steps };
             }

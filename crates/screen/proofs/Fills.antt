@@ -1,5 +1,5 @@
--- Filling both areas, one after the other, is clearing pixel by pixel. Rows of columns are one run of turns; and a depth's half-word
--- is apart from every colour's, so the turns of the two fills can be taken in pairs.
+-- Filling both areas, one after the other, is clearing pixel by pixel. Rows of columns are one fold; and a depth's half-word
+-- is apart from every colour's, so the passes of the two fills can be taken in pairs.
 use Prim.Native.Nat.{ℕ, _+_, _*_, _-_, _/_, _%_, _≤_, _<_}
 use mathlib.Core.Path.{_≡_, refl, sym, _∙_, ap}
 use mathlib.Core.Logic.{_⊎_, inl, inr}

@@ -1,4 +1,4 @@
--- More laws of doing in turn: a step that passes a run, two runs taken in pairs, and rows of columns as one run.
+-- More laws of folds: a function that goes past a fold, two folds taken in pairs, and rows of columns as one fold.
 use Prim.Native.Nat.{ℕ, zero, suc, _+_, _*_, _<_}
 use mathlib.Core.Path.{_≡_, refl, sym, _∙_, ap}
 use native.Mathlib.Omega.{arith}
@@ -7,7 +7,7 @@ use Rattle.rules.specs.Folds.{upto}
 use Rattle.rules.proofs.Folds.{upto-add}
 
 module _ {A : Type 0} where
-  -- a turn that goes past each of a run
+  -- a function that goes past each step of a fold
   pub upto-past : (f : A → A) (g : ℕ → A → A) (n : ℕ) (a : A)
       → ((i : ℕ) (b : A) → i < n → g i (f b) ≡ f (g i b)) → upto g n (f a) ≡ f (upto g n a)
   unfolding upto
@@ -15,7 +15,7 @@ module _ {A : Type 0} where
   upto-past f g (suc n) a h =
       ap (g n) (upto-past f g n a (λ i b l. h i b (omega arith))) ∙ h n (upto g n a) (le-refl (suc n))
 
-  -- two runs, taken in pairs
+  -- two folds, taken in pairs
   pub upto-pairs : (f g : ℕ → A → A) (n : ℕ) (a : A) → ((i j : ℕ) (b : A) → i < n → j < n → g i (f j b) ≡ f j (g i b))
       → upto g n (upto f n a) ≡ upto (λ i b. g i (f i b)) n a
   unfolding upto
@@ -25,7 +25,7 @@ module _ {A : Type 0} where
       (upto-past (f n) g n (upto f n a) (λ i b l. h i n b (omega arith) (le-refl (suc n)))
       ∙ ap (f n) (upto-pairs f g n a (λ i j b l k. h i j b (omega arith) (omega arith))))
 
-  -- rows of columns are one run
+  -- rows of columns are one fold
   pub upto-rows : (f : ℕ → A → A) (w h : ℕ) (a : A) → upto (λ y. upto (λ x. f (y * w + x)) w) h a ≡ upto f (h * w) a
   unfolding upto
   upto-rows f w zero a = rw zero-mul

@@ -9,7 +9,7 @@ use crate::sizes::pixel_count;
 use crate::sizes::screen_number;
 use rules::Screen;
 
-// One linear run of bytes, so that the stores become wide ones.
+// One stretch of bytes, so that the stores become wide ones.
 fn fill(ram: &mut [u8], start: usize, count: usize, v: u16)
     requires { ⌜ start + count * 2 ≤ length (now ram) ⌝ }
     ensures { λ _. ⌜ now (ram .exit) ≡ filled start v count (now (ram .entry)) ⌝ }

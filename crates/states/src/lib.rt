@@ -1,7 +1,7 @@
 // A state before it runs: a fresh one, whether one is ill-formed, and the number of a call with it.
 use instructions::State;
 use instructions::Tree;
-use leaves::refuses;
+use leaves::refuses_place;
 use rules::Screen;
 use screen::sizes::sound;
 use screen::sizes::too_long;
@@ -52,7 +52,7 @@ pub fn ill_formed(len: usize, state: State) -> bool
     let halt = state.halt;
     let known = (halt == 0) | (11 <= halt) & (halt <= 17);
     let unsound = !sound(len, screen);
-    let refused = refuses(screen, tree.column, tree.row);
+    let refused = refuses_place(screen, tree.column, tree.row);
     (regs[0] != 0)
         | !known
         | state.shown & unsound

@@ -4,7 +4,7 @@ use mathlib.Core.Path.{_≡_}
 use lib.ListN.{length}
 use Rattle.instructions.specs.Opcodes.{WRITE}
 use Rattle.instructions.specs.Words.{opcode}
-use Rattle.pieces.specs.Steps.{Going, Plain, Scene, Shows}
+use Rattle.pieces.specs.Steps.{Going, Plain, Viewing, Shows}
 
 -- up to WRITE
 pub record PlainFits (w : ℕ) (p : Plain) : Type 0 where
@@ -13,7 +13,7 @@ pub record PlainFits (w : ℕ) (p : Plain) : Type 0 where
   pub going : Going (p .regs) (p .cpu)
 
 -- from SCRSET on
-pub record ViewFits (w : ℕ) (s : Scene) : Type 0 where
+pub record ViewFits (w : ℕ) (s : Viewing) : Type 0 where
   pub high : WRITE < opcode w
   pub going : Going (s .regs) (s .cpu)
   pub shows : Shows (length (s .ram)) (s .view)

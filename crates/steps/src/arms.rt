@@ -74,7 +74,7 @@ use results::do_or;
 use results::do_recp;
 use results::do_sub;
 use results::do_xor;
-use views::Turn;
+use views::ViewStep;
 use views::do_cls;
 use views::do_scrset;
 use views::do_treein;
@@ -82,7 +82,7 @@ use views::do_treeput;
 use views::do_treeset;
 use views::do_treeval;
 use views::stop;
-ghost use Rattle.pieces.specs.Steps.{Steps, ViewSteps, plain, scene};
+ghost use Rattle.pieces.specs.Steps.{Steps, ViewSteps, plain, viewing};
 ghost use Rattle.steps.specs.Fits.{PlainFits, ViewFits};
 
 // An instruction up to WRITE. No word reaches the last arm.
@@ -131,9 +131,9 @@ pub fn plain_step(w: u32, regs: &mut [u32; 32], memory: &mut [u32], ram: &mut [u
 }
 
 // An instruction from SCRSET on, or an opcode that has none.
-pub fn view_step(w: u32, regs: &mut [u32; 32], cpu: Cpu, view: View, ram: &mut [u8]) -> Turn
-    requires { ⌜ ViewFits w (scene (now regs) cpu view (now ram)) ⌝ }
-    ensures { λ r. ⌜ ViewSteps w (scene (now (regs .entry)) cpu view (now (ram .entry))) (scene (now (regs .exit)) (r .cpu) (r .view) (now (ram .exit))) ⌝ }
+pub fn view_step(w: u32, regs: &mut [u32; 32], cpu: Cpu, view: View, ram: &mut [u8]) -> ViewStep
+    requires { ⌜ ViewFits w (viewing (now regs) cpu view (now ram)) ⌝ }
+    ensures { λ r. ⌜ ViewSteps w (viewing (now (regs .entry)) cpu view (now (ram .entry))) (viewing (now (regs .exit)) (r .cpu) (r .view) (now (ram .exit))) ⌝ }
 {
     match opcode(w) {
         SCRSET => do_scrset(w, regs, cpu, view, ram),

@@ -27,7 +27,7 @@ use Rattle.pieces.specs.declared.state.View.{View}
 use Rattle.pieces.specs.Pieces.{joined, machine, at, stopped, screened, treed}
 use Rattle.pieces.specs.Steps.{stepped, Shows}
 use Rattle.pieces.proofs.Joined.{stops, goes-onward}
-use Rattle.views.specs.declared.Turn.{Turn}
+use Rattle.views.specs.declared.ViewStep.{ViewStep}
 
 -- the screen is one that a clear accepts, and the tree one that stands on it
 module _ {ramLength : ℕ} {view : View} (s : Shows ramLength view) where
@@ -39,14 +39,14 @@ module _ {ramLength : ℕ} {view : View} (s : Shows ramLength view) where
   placed h = record { is-sound = s .screenSound (s .treeShown h); accepted = s .treePlace h }
 
 -- TREEVAL by its imm: a depth at 0, else a colour
-module _ (part : ℕ) (s : Screen) (ram : List ℕ) (a b : ℕ) (t : Tree) where
-  pub val-depth : part ≡ 0 → treeVal part s ram a b t ≡ treeDepth s ram a b t
+module _ (kind : ℕ) (s : Screen) (ram : List ℕ) (a b : ℕ) (t : Tree) where
+  pub val-depth : kind ≡ 0 → treeVal kind s ram a b t ≡ treeDepth s ram a b t
   unfolding treeVal
   val-depth e = rw e
 
-  pub val-colour : part ≢ 0 → treeVal part s ram a b t ≡ treeColour part a b t
+  pub val-colour : kind ≢ 0 → treeVal kind s ram a b t ≡ treeColour kind a b t
   unfolding treeVal
-  val-colour d = rw (ne-eqb part 0 d)
+  val-colour d = rw (ne-eqb kind 0 d)
 
 module _ (regs : List ℕ) (cpu : Cpu) (view : View) (memory ram : List ℕ) (w : ℕ) where
   abbrev before : Machine
@@ -55,55 +55,55 @@ module _ (regs : List ℕ) (cpu : Cpu) (view : View) (memory ram : List ℕ) (w 
   abbrev halt : ℕ
   halt = wordHalt current (length ram) (joined regs cpu view) w
 
-  abbrev after : List ℕ → Turn → List ℕ → Machine
-  after regs′ turn ram′ = machine regs′ (turn .cpu) (turn .view) memory ram′
+  abbrev after : List ℕ → ViewStep → List ℕ → Machine
+  after regs′ next ram′ = machine regs′ (next .cpu) (next .view) memory ram′
 
-  pub view-stops : (n : ℕ) (turn : Turn)
-      → turn ≡ record { cpu = stopped n cpu; view = view }
+  pub view-stops : (n : ℕ) (next : ViewStep)
+      → next ≡ record { cpu = stopped n cpu; view = view }
       → halt ≡ n
       → n ≢ 0
-      → after regs turn ram ≡ stepped before w
-  view-stops n turn h e d =
-      ap (λ (t : Turn). after regs t ram) h ∙ stops regs cpu view memory ram w n (stopped n cpu) refl e d
+      → after regs next ram ≡ stepped before w
+  view-stops n next h e d =
+      ap (λ (t : ViewStep). after regs t ram) h ∙ stops regs cpu view memory ram w n (stopped n cpu) refl e d
 
   -- on to the next place
-  module _ (z : halt ≡ 0) (turn : Turn) where
+  module _ (z : halt ≡ 0) (next : ViewStep) where
     onward : (regs′ : List ℕ) (view′ : View) (ram′ : List ℕ)
         → isJump (opcode w) ≡ false
         → effect before w ≡ machine regs′ cpu view′ memory ram′
-        → turn ≡ record { cpu = at (cpu .place + 1) cpu; view = view′ }
-        → after regs′ turn ram′ ≡ stepped before w
+        → next ≡ record { cpu = at (cpu .place + 1) cpu; view = view′ }
+        → after regs′ next ram′ ≡ stepped before w
     onward regs′ view′ ram′ j e h =
-        ap (λ (t : Turn). after regs′ t ram′) h ∙ goes-onward regs cpu view memory ram w regs′ cpu view′ memory ram′ z j e
+        ap (λ (t : ViewStep). after regs′ t ram′) h ∙ goes-onward regs cpu view memory ram w regs′ cpu view′ memory ram′ z j e
 
     pub sets-screen : opcode w ≡ SCRSET
-        → turn ≡ record { cpu = at (cpu .place + 1) cpu; view = screened (screenSet regs w) view }
-        → after regs turn ram ≡ stepped before w
+        → next ≡ record { cpu = at (cpu .place + 1) cpu; view = screened (screenSet regs w) view }
+        → after regs next ram ≡ stepped before w
     unfolding afterSCRSET withScreen
     sets-screen e h = onward regs _ ram (ap isJump e) (effect-SCRSET before w e) h
 
     pub clears : (ram′ : List ℕ)
         → opcode w ≡ CLS
         → ram′ ≡ cleared (view .screen) (lowHalf (inR1 regs w)) (lowHalf (inR2 regs w)) ram
-        → turn ≡ record { cpu = at (cpu .place + 1) cpu; view = view }
-        → after regs turn ram′ ≡ stepped before w
+        → next ≡ record { cpu = at (cpu .place + 1) cpu; view = view }
+        → after regs next ram′ ≡ stepped before w
     unfolding afterCLS
     clears ram′ e m h =
         onward regs view ram′ (ap isJump e) (effect-CLS before w e ∙ ap (λ l. machine regs cpu view memory l) (sym m)) h
 
     pub plants : opcode w ≡ TREESET
-        → turn ≡ record { cpu = at (cpu .place + 1) cpu; view = treed (treeSet (inR1 regs w) (inR2 regs w) (inR3 regs w)) view }
-        → after regs turn ram ≡ stepped before w
+        → next ≡ record { cpu = at (cpu .place + 1) cpu; view = treed (treeSet (inR1 regs w) (inR2 regs w) (inR3 regs w)) view }
+        → after regs next ram ≡ stepped before w
     unfolding afterTREESET withTree
     plants e h = onward regs _ ram (ap isJump e) (effect-TREESET before w e) h
 
     -- TREEIN and TREEVAL: r1 and the tree
     module _ (regs′ : List ℕ) (tree′ : Tree)
         (h : (regs′ ≡ withRegister regs (r1 w) (pastLeaves (inR1 regs w) (inR2 regs w)))
-        × (turn ≡ record { cpu = at (cpu .place + 1) cpu; view = treed tree′ view })) where
+        × (next ≡ record { cpu = at (cpu .place + 1) cpu; view = treed tree′ view })) where
       pub grows-in : opcode w ≡ TREEIN
           → tree′ ≡ treeIn (inR1 regs w) (inR2 regs w) (view .tree)
-          → after regs′ turn ram ≡ stepped before w
+          → after regs′ next ram ≡ stepped before w
       unfolding afterTREEIN grown withTree withRegisters
       grows-in e t =
           onward regs′ _ ram (ap isJump e)
@@ -112,7 +112,7 @@ module _ (regs : List ℕ) (cpu : Cpu) (view : View) (memory ram : List ℕ) (w 
 
       pub grows-val : opcode w ≡ TREEVAL
           → tree′ ≡ treeVal (imm w) (view .screen) ram (inR1 regs w) (inR2 regs w) (view .tree)
-          → after regs′ turn ram ≡ stepped before w
+          → after regs′ next ram ≡ stepped before w
       unfolding afterTREEVAL grown withTree withRegisters
       grows-val e t =
           onward regs′ _ ram (ap isJump e)
@@ -122,8 +122,8 @@ module _ (regs : List ℕ) (cpu : Cpu) (view : View) (memory ram : List ℕ) (w 
     pub puts-tree : (ram′ : List ℕ)
         → opcode w ≡ TREEPUT
         → ram′ ≡ treePut (view .screen) (view .tree) ram
-        → turn ≡ record { cpu = at (cpu .place + 1) cpu; view = view }
-        → after regs turn ram′ ≡ stepped before w
+        → next ≡ record { cpu = at (cpu .place + 1) cpu; view = view }
+        → after regs next ram′ ≡ stepped before w
     unfolding afterTREEPUT
     puts-tree ram′ e m h =
         onward regs view ram′ (ap isJump e) (effect-TREEPUT before w e ∙ ap (λ l. machine regs cpu view memory l) (sym m)) h

@@ -1,4 +1,4 @@
--- `bytes_of` answers each mark as 0 or 1: the loop fills the array leaf by leaf. Assumes nothing.
+-- `bytes_of` answers each mark as 0 or 1: the loop fills the array leaf by leaf.
 use Prim.Native.Nat.{_-_, _≤_}
 use mathlib.Core.Path.{refl}
 use mathlib.Core.Bool.{false}

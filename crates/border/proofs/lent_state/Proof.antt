@@ -1,4 +1,4 @@
--- `lent_state` answers a state, field by field. Assumes nothing.
+-- `lent_state` answers a state, field by field.
 use borrow.Author.Needs.{needs}
 use Rattle.border.proofs.lent_state.Statement.{statement}
 use Rattle.border.proofs.lent_state.Tie as tie

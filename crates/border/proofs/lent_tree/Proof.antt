@@ -1,4 +1,4 @@
--- `lent_tree` answers a tree, field by field. Assumes nothing.
+-- `lent_tree` answers a tree, field by field.
 use borrow.Author.Needs.{needs}
 use Rattle.border.proofs.lent_tree.Statement.{statement}
 use Rattle.border.proofs.lent_tree.Tie as tie

@@ -1,4 +1,4 @@
--- `marks_of` reads each byte as a mark: the loop fills the array leaf by leaf. Assumes nothing.
+-- `marks_of` reads each byte as a mark: the loop fills the array leaf by leaf.
 use Prim.Native.Nat.{_-_, _≤_}
 use mathlib.Core.Path.{refl}
 use native.Mathlib.Omega.{arith}

@@ -1,4 +1,4 @@
--- `state_of` reads a lent state, field by field. Assumes nothing.
+-- `state_of` reads a lent state, field by field.
 use borrow.Author.Needs.{needs}
 use Rattle.border.specs.Lent.{isYes}
 use Rattle.border.proofs.state_of.Statement.{statement}

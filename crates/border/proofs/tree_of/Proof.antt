@@ -1,4 +1,4 @@
--- `tree_of` reads a lent tree, field by field. Assumes nothing.
+-- `tree_of` reads a lent tree, field by field.
 use borrow.Author.Needs.{needs}
 use Rattle.border.specs.Lent.{isYes}
 use Rattle.border.proofs.tree_of.Statement.{statement}

@@ -1,4 +1,4 @@
--- `negative` is the sign of the word read as signed: negative is from 2^31 on. Assumes nothing.
+-- `negative` is the sign of the word read as signed: negative is from 2^31 on.
 use Prim.Native.Nat.{ℕ, suc, _-_}
 use mathlib.Core.Path.{_≡_, refl}
 use mathlib.Core.Bool.{Bool, true, false}

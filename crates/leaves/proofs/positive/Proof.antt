@@ -1,4 +1,4 @@
--- `positive` is the sign of the word read as signed: positive is above 0 and below 2^31. Assumes nothing.
+-- `positive` is the sign of the word read as signed: positive is above 0 and below 2^31.
 use Prim.Native.Nat.{ℕ, zero, suc, _-_}
 use mathlib.Core.Path.{_≡_, refl}
 use mathlib.Core.Bool.{Bool, true, false, _&&_}

@@ -1,5 +1,5 @@
--- `replaced` gives the colour with one part replaced: the test on the way picks the definition's choice, and each part stays in its bits.
--- Assumes nothing.
+-- `replaced` gives the colour with what the kind says replaced: the test on the way picks the definition's choice, and red, green and
+-- blue stay in their bits.
 use borrow.Author.Tests.{eq-eqb, ne-eqb}
 use Rattle.rules.specs.Triangles.{topHalf}
 use Rattle.instructions.specs.Tree.{replaced}

@@ -1,5 +1,5 @@
 -- `tree_colour` gives the tree of TREEVAL 1, 2 and 3: the loop fills the colours leaf by leaf from what they were, and its value goes from
--- leaf to leaf. Assumes nothing.
+-- leaf to leaf.
 use Prim.Native.Nat.{ℕ, _-_, _≤_}
 use mathlib.Core.Path.{_≡_, _∙_, ap₂}
 use native.Mathlib.Omega.{arith}
@@ -11,13 +11,13 @@ use Rattle.leaves.proofs.tree_colour.Statement.{statement}
 use Rattle.leaves.proofs.tree_colour.Tie as tie
 
 abbrev Inv-loop : tie.InvT-loop
-Inv-loop tree part a b inside outside colour₀ depth v₀ k₀ colour v k =
+Inv-loop tree kind a b inside outside colour₀ depth v₀ k₀ colour v k =
     (k ≤ 16)
     × (v ≡ leafValue a b k)
-    × Filled (λ i. replaced part (leafValue a b i) (leafColour tree i)) k (tree .colour) colour
+    × Filled (λ i. replaced kind (leafValue a b i) (leafColour tree i)) k (tree .colour) colour
 
 abbrev μ-loop : tie.MeasureT-loop
-μ-loop tree part a b inside outside colour₀ depth v₀ k₀ colour v k = 16 - k
+μ-loop tree kind a b inside outside colour₀ depth v₀ k₀ colour v k = 16 - k
 
 loop-holds : tie.Need-loop-holds Inv-loop μ-loop
 loop-holds c = (omega arith, value-first _ _ (omega arith), filled-none (search needs))
@@ -57,7 +57,7 @@ loop-again c =
       omega arith,
       value-next (a .a) (a .b) (l .k) up (c .before .sum32 .ensures),
       filled-more (l .inv .2) h
-          (c .replaced .ensures ∙ ap₂ (λ (v colour : ℕ). replaced (a .part) v colour) up (filled-kept (l .inv .2) 0 h)),
+          (c .replaced .ensures ∙ ap₂ (λ (v colour : ℕ). replaced (a .kind) v colour) up (filled-kept (l .inv .2) 0 h)),
     )
 
 returns : tie.Need-returns Inv-loop μ-loop

@@ -1,5 +1,4 @@
--- `tree_in` gives TREEIN's tree: the loop fills the marks leaf by leaf from what they were, and its value goes from leaf to leaf. Assumes
--- nothing.
+-- `tree_in` gives TREEIN's tree: the loop fills the marks leaf by leaf from what they were, and its value goes from leaf to leaf.
 use Prim.Native.Nat.{_-_, _≤_}
 use mathlib.Core.Path.{_≡_, _∙_, ap, ap₂}
 use mathlib.Core.Bool.{false, _&&_, _||_, not}

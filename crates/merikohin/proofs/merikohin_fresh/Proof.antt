@@ -1,4 +1,4 @@
--- `merikohin_fresh` answers the fresh state as C has it. Assumes nothing.
+-- `merikohin_fresh` answers the fresh state as C has it.
 use mathlib.Core.Path.{_∙_, ap}
 use Rattle.border.specs.Lent.{lentState}
 use borrow.Author.Needs.{needs}

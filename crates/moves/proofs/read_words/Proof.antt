@@ -1,5 +1,4 @@
--- `read_words` leaves `wordsRead`. The loop's invariant: the first `i` words are read, which are the definition's first `i` turns. Assumes
--- nothing.
+-- `read_words` leaves `wordsRead`. The loop's invariant: the first `i` words are read, which are the definition's first `i` passes.
 use Prim.Native.Nat.{_+_, _-_, _≤_}
 use mathlib.Core.Path.{_≡_, refl, sym, _∙_, ap₂}
 use native.Mathlib.Omega.{arith}

@@ -1,5 +1,4 @@
--- `write_words` leaves `wordsWritten`. The loop's invariant: the first `i` words are written, which are the definition's first `i` turns.
--- Assumes nothing.
+-- `write_words` leaves `wordsWritten`. The loop's invariant: the first `i` words are written, which are the definition's first `i` passes.
 use Prim.Native.Nat.{_+_, _*_, _-_, _≤_}
 use mathlib.Core.Path.{_≡_, refl, sym, _∙_, ap}
 use native.Mathlib.Omega.{arith}

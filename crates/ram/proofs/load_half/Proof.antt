@@ -1,5 +1,4 @@
 -- `load_half` gives the half-word at `a`: both bytes are below 256, so nothing wraps and the value is below 65,536.
--- Assumes nothing.
 use Prim.Native.Nat.{_+_}
 use mathlib.Core.Path.{refl}
 use native.Mathlib.Omega.{arith}

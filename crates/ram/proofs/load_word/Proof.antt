@@ -1,5 +1,4 @@
 -- `load_word` gives the word at `a`: it is its two half-words, which is the definition, and a half-word is below 65,536, so nothing wraps.
--- Assumes nothing.
 use Prim.Native.Nat.{ℕ, _+_, _*_}
 use mathlib.Core.Path.{ap₂}
 use borrow.Author.Needs.{needs}

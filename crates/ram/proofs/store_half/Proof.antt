@@ -1,4 +1,4 @@
--- `store_half` leaves `storeHalf`: its two stores are that definition's two. Assumes nothing.
+-- `store_half` leaves `storeHalf`: its two stores are that definition's two.
 use mathlib.Core.Path.{refl}
 use borrow.Author.Needs.{needs}
 use Rattle.ram.specs.Ram.{storeHalf}

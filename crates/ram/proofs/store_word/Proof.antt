@@ -1,4 +1,4 @@
--- `store_word` leaves `storeWord`: it stores two half-words, which is the definition. Assumes nothing.
+-- `store_word` leaves `storeWord`: it stores two half-words, which is the definition.
 use Prim.Native.Nat.{_+_, _%_}
 use mathlib.Core.Path.{_∙_, ap}
 use borrow.Author.Needs.{needs}

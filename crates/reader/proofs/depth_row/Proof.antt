@@ -1,4 +1,4 @@
--- `depth_row`: the part that `depth_row_part` locates lies within the RAM, and its bytes are those of `bytes_of`. Assumes nothing.
+-- `depth_row`: the part that `depth_row_part` locates lies within the RAM, and its bytes are those of `bytes_of`.
 use borrow.Author.Needs.{needs}
 use Rattle.rules.proofs.Strips.{depths-by-row}
 use Rattle.reader.proofs.RowBounds.{part-fits, handed-back}

@@ -1,4 +1,4 @@
--- `depth_row_part`: the part that `part_from` locates begins where `depthAt` has the row's first pixel. Assumes nothing.
+-- `depth_row_part`: the part that `part_from` locates begins where `depthAt` has the row's first pixel.
 use borrow.Author.Needs.{needs}
 use Rattle.rules.specs.Sizes.{depthAt}
 use Rattle.reader.proofs.RowBounds.{begun}

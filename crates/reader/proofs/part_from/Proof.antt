@@ -1,4 +1,4 @@
--- `part_from`: where the number is not 0 the part is empty, at 0, and else it begins at `first` and is a row long. Assumes nothing.
+-- `part_from`: where the number is not 0 the part is empty, at 0, and else it begins at `first` and is a row long.
 use borrow.Author.Needs.{needs}
 use Rattle.reader.proofs.RowBounds.{refused, found}
 use Rattle.reader.proofs.part_from.Statement.{statement}

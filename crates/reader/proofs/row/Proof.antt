@@ -1,4 +1,4 @@
--- `row`: the part that `row_part` locates lies within the RAM, and its bytes are those of `bytes_of`. Assumes nothing.
+-- `row`: the part that `row_part` locates lies within the RAM, and its bytes are those of `bytes_of`.
 use borrow.Author.Needs.{needs}
 use Rattle.rules.proofs.Strips.{colours-by-row}
 use Rattle.reader.proofs.RowBounds.{part-fits, handed-back}

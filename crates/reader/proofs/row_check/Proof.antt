@@ -1,4 +1,4 @@
--- `row_check`: the screen's number where that is not 0; else the row decides, 8 or 0. Assumes nothing.
+-- `row_check`: the screen's number where that is not 0; else the row decides, 8 or 0.
 use Prim.Native.Nat.{ℕ}
 use mathlib.Core.Bool.{Bool, true, false, not}
 use mathlib.Core.Path.{_≡_, sym, _∙_, ap}

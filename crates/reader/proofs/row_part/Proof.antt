@@ -1,4 +1,4 @@
--- `row_part`: the part that `part_from` locates begins where `colourAt` has the row's first pixel. Assumes nothing.
+-- `row_part`: the part that `part_from` locates begins where `colourAt` has the row's first pixel.
 use borrow.Author.Needs.{needs}
 use Rattle.rules.specs.Sizes.{colourAt}
 use Rattle.reader.proofs.RowBounds.{begun}

@@ -14,8 +14,8 @@ use Rattle.results.proofs.do_li.Tie as tie
 address-in-requires : tie.Need-address-in-requires
 address-in-requires c κs = search needs
 
-sign-extended-requires : tie.Need-sign-extended-requires
-sign-extended-requires c κs = search needs
+immediate-requires : tie.Need-immediate-requires
+immediate-requires c κs = search needs
 
 put-result-requires : tie.Need-put-result-requires
 put-result-requires c κs = search needs
@@ -28,11 +28,11 @@ returns c =
     let e : opcode (a .w) ≡ LI = start .pre .0 in
     register-result (now (a .regs)) (a .cpu) (a .w) _ _ _ (omega (arith, e), omega (arith, e))
     (λ memory.
-    v .sign-extended .ensures
+    v .immediate .ensures
     ∙ ap immediate (v .before .address-in .ensures)
     ∙ sym (result-LI memory (now (a .regs)) (a .w) e))
     (c .put-result .ensures)
 
 pub do-li-spec : {M : Type 1} → statement M
 do-li-spec =
-    tie.close (tie.spec address-in-requires sign-extended-requires put-result-requires returns)
+    tie.close (tie.spec address-in-requires immediate-requires put-result-requires returns)

@@ -17,8 +17,8 @@ in-r2-requires c κs = search needs
 in-r3-requires : tie.Need-in-r3-requires
 in-r3-requires c κs = search needs
 
-mulf-requires : tie.Need-mulf-requires
-mulf-requires c κs = search needs
+rounded-product-requires : tie.Need-rounded-product-requires
+rounded-product-requires c κs = search needs
 
 put-result-requires : tie.Need-put-result-requires
 put-result-requires c κs = search needs
@@ -33,11 +33,11 @@ returns c =
     let e : opcode (a .w) ≡ MULF = start .pre .0 in
     register-result (now (a .regs)) (a .cpu) (a .w) _ _ _ (omega (arith, e), omega (arith, e))
     (λ memory.
-    v .mulf .ensures
+    v .rounded-product .ensures
     ∙ ap₂ roundedProduct (first .in-r2 .ensures) (second .in-r3 .ensures)
     ∙ sym (result-MULF memory (now (a .regs)) (a .w) e))
     (c .put-result .ensures)
 
 pub do-mulf-spec : {M : Type 1} → statement M
 do-mulf-spec =
-    tie.close (tie.spec in-r2-requires in-r3-requires mulf-requires put-result-requires returns)
+    tie.close (tie.spec in-r2-requires in-r3-requires rounded-product-requires put-result-requires returns)

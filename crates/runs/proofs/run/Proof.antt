@@ -1,4 +1,4 @@
--- The loop's invariant is `Kept`: what is left to run from here is the whole run. A turn is one step, which goes on or halts.
+-- The loop's invariant is `Kept`: what is left to run from here is the whole run. A pass is one step, which goes on or halts.
 use borrow.Author.Needs.{needs}
 use Prim.Native.Nat.{_-_, _<_}
 use mathlib.Core.Path.{_≡_, sym, _∙_, ap}
@@ -10,7 +10,7 @@ use Rattle.instructions.specs.Step.{Machine, step}
 use Rattle.pieces.specs.declared.state.Cpu.{Cpu}
 use Rattle.pieces.specs.Pieces.{machine}
 use Rattle.runs.proofs.Invariant.{Kept, stops-past, step-in, ready-facts, ready-shows}
-use Rattle.runs.proofs.Invariant.{halted-ends, kept-start, kept-end, kept-stop, kept-turn}
+use Rattle.runs.proofs.Invariant.{halted-ends, kept-start, kept-end, kept-stop, kept-pass}
 use Rattle.runs.proofs.run.Statement.{statement}
 use Rattle.runs.proofs.run.Tie as tie
 
@@ -24,7 +24,7 @@ abbrev μ-loop : tie.MeasureT-loop
 abbrev first-of : tie.Start Inv-loop μ-loop → Machine
 first-of c = machine (now (c .args .regs)) (c .args .first) (c .args .given) (now (c .args .memory)) (now (c .args .ram))
 
--- the start of the run, and the machine, at a turn
+-- the start of the run, and the machine, at a pass
 abbrev start-of : tie.At-loop Inv-loop μ-loop → tie.Start Inv-loop μ-loop
 start-of c =
     let entered = c .before .before .before in
@@ -36,14 +36,14 @@ here c = machine (c .loop .regs) (c .loop .cpu) (c .loop .view) (c .loop .memory
 same-memory : (c : tie.At-loop Inv-loop μ-loop) → length (c .loop .memory) ≡ length (now (start-of c .args .memory))
 same-memory c = c .loop .inv .ready .size ∙ sym (start-of c .pre .size)
 
--- a step up to WRITE: its turn, that the budget is not spent, and that it is the definition's
-abbrev plain-turn : tie.After-plain-step Inv-loop μ-loop → tie.At-loop Inv-loop μ-loop
-plain-turn c =
+-- a step up to WRITE: its pass, that the budget is not spent, and that it is the definition's
+abbrev plain-pass : tie.After-plain-step Inv-loop μ-loop → tie.At-loop Inv-loop μ-loop
+plain-pass c =
     let kind = c .before .before .before .before in
     let inside = kind .before .before .before in
     inside .before .before .before
 
-plain-below : (c : tie.After-plain-step Inv-loop μ-loop) → plain-turn c .loop .steps < start-of (plain-turn c) .args .budget
+plain-below : (c : tie.After-plain-step Inv-loop μ-loop) → plain-pass c .loop .steps < start-of (plain-pass c) .args .budget
 plain-below c =
     let kind = c .before .before .before .before in
     let inside = kind .before .before .before in
@@ -51,22 +51,22 @@ plain-below c =
 
 plain-stepped : (c : tie.After-plain-step Inv-loop μ-loop)
     → let p = c .plain-step in
-    machine (p .last .1 .0) (p .result) (plain-turn c .loop .view) (p .last .1 .1 .0) (p .last .1 .1 .1 .0)
-    ≡ step current (now (start-of (plain-turn c) .args .program)) (here (plain-turn c))
+    machine (p .last .1 .0) (p .result) (plain-pass c .loop .view) (p .last .1 .1 .0) (p .last .1 .1 .1 .0)
+    ≡ step current (now (start-of (plain-pass c) .args .program)) (here (plain-pass c))
 plain-stepped c =
     let kind = c .before .before .before .before in
     let inside = kind .before .before .before in
-    let turn = plain-turn c in
-    c .plain-step .ensures (turn .loop .view) ∙ step-in _ (here turn) (turn .loop .inv .goes) (inside .if2 .left)
+    let pass = plain-pass c in
+    c .plain-step .ensures (pass .loop .view) ∙ step-in _ (here pass) (pass .loop .inv .goes) (inside .if2 .left)
 
 -- the same of a step from SCRSET on
-abbrev view-turn : tie.After-view-step Inv-loop μ-loop → tie.At-loop Inv-loop μ-loop
-view-turn c =
+abbrev view-pass : tie.After-view-step Inv-loop μ-loop → tie.At-loop Inv-loop μ-loop
+view-pass c =
     let kind = c .before .before .before in
     let inside = kind .before .before .before in
     inside .before .before .before
 
-view-below : (c : tie.After-view-step Inv-loop μ-loop) → view-turn c .loop .steps < start-of (view-turn c) .args .budget
+view-below : (c : tie.After-view-step Inv-loop μ-loop) → view-pass c .loop .steps < start-of (view-pass c) .args .budget
 view-below c =
     let kind = c .before .before .before in
     let inside = kind .before .before .before in
@@ -74,13 +74,13 @@ view-below c =
 
 view-stepped : (c : tie.After-view-step Inv-loop μ-loop)
     → let p = c .view-step in
-    machine (p .last .1 .0) (p .result .cpu) (p .result .view) (view-turn c .loop .memory) (p .last .1 .1 .1 .1 .0)
-    ≡ step current (now (start-of (view-turn c) .args .program)) (here (view-turn c))
+    machine (p .last .1 .0) (p .result .cpu) (p .result .view) (view-pass c .loop .memory) (p .last .1 .1 .1 .1 .0)
+    ≡ step current (now (start-of (view-pass c) .args .program)) (here (view-pass c))
 view-stepped c =
     let kind = c .before .before .before in
     let inside = kind .before .before .before in
-    let turn = view-turn c in
-    c .view-step .ensures (turn .loop .memory) ∙ step-in _ (here turn) (turn .loop .inv .goes) (inside .if2 .left)
+    let pass = view-pass c in
+    c .view-step .ensures (pass .loop .memory) ∙ step-in _ (here pass) (pass .loop .inv .goes) (inside .if2 .left)
 
 returns : tie.Need-returns Inv-loop μ-loop
 returns c =
@@ -141,25 +141,25 @@ same-length-3 : tie.Need-same-length-3 Inv-loop μ-loop
 same-length-3 c =
     let kept = c .before .before .before .before in
     let done = kept .before .before in
-    done .plain-step .kept .1 .1 .0 ∙ same-memory (plain-turn done)
+    done .plain-step .kept .1 .1 .0 ∙ same-memory (plain-pass done)
 
 same-length-4 : tie.Need-same-length-4 Inv-loop μ-loop
 same-length-4 c =
     let kept = c .before .before .before .before in
     let done = kept .before .before in
-    done .plain-step .kept .1 .1 .1 .0 ∙ plain-turn done .loop .inv .sameRam
+    done .plain-step .kept .1 .1 .1 .0 ∙ plain-pass done .loop .inv .sameRam
 
 returns-3 : tie.Need-returns-3 Inv-loop μ-loop
 returns-3 c =
     let kept = c .before .before .before .before in
     let done = kept .before .before in
-    kept-stop (plain-turn done .loop .inv) (plain-below done) _ (plain-stepped done) (c .if4 .taken)
+    kept-stop (plain-pass done .loop .inv) (plain-below done) _ (plain-stepped done) (c .if4 .taken)
 
 add-steps : tie.Need-add-steps Inv-loop μ-loop
 add-steps c =
     let kept = c .before .before .before .before in
     let done = kept .before .before in
-    omega (arith, plain-below done, start-of (plain-turn done) .fits .budget)
+    omega (arith, plain-below done, start-of (plain-pass done) .fits .budget)
 
 loop-less : tie.Need-loop-less Inv-loop μ-loop
 loop-less c =
@@ -170,7 +170,7 @@ loop-again : tie.Need-loop-again Inv-loop μ-loop
 loop-again c =
     let kept = c .before .before .before .before in
     let done = kept .before .before in
-    kept-turn (plain-turn done .loop .inv) (plain-below done) _ (plain-stepped done) (c .if4 .left)
+    kept-pass (plain-pass done .loop .inv) (plain-below done) _ (plain-stepped done) (c .if4 .left)
 
 view-step-requires : tie.Need-view-step-requires Inv-loop μ-loop
 view-step-requires c κs =
@@ -189,25 +189,25 @@ view-step-requires c κs =
 same-length-5 : tie.Need-same-length-5 Inv-loop μ-loop
 same-length-5 c =
     let kept = c .before .before .before .before in
-    same-memory (view-turn (kept .before .before))
+    same-memory (view-pass (kept .before .before))
 
 same-length-6 : tie.Need-same-length-6 Inv-loop μ-loop
 same-length-6 c =
     let kept = c .before .before .before .before in
     let done = kept .before .before in
-    done .view-step .kept .1 .1 .1 .1 .0 ∙ view-turn done .loop .inv .sameRam
+    done .view-step .kept .1 .1 .1 .1 .0 ∙ view-pass done .loop .inv .sameRam
 
 returns-4 : tie.Need-returns-4 Inv-loop μ-loop
 returns-4 c =
     let kept = c .before .before .before .before in
     let done = kept .before .before in
-    kept-stop (view-turn done .loop .inv) (view-below done) _ (view-stepped done) (c .if5 .taken)
+    kept-stop (view-pass done .loop .inv) (view-below done) _ (view-stepped done) (c .if5 .taken)
 
 add-steps-2 : tie.Need-add-steps-2 Inv-loop μ-loop
 add-steps-2 c =
     let kept = c .before .before .before .before in
     let done = kept .before .before in
-    omega (arith, view-below done, start-of (view-turn done) .fits .budget)
+    omega (arith, view-below done, start-of (view-pass done) .fits .budget)
 
 loop-less-2 : tie.Need-loop-less-2 Inv-loop μ-loop
 loop-less-2 c =
@@ -218,7 +218,7 @@ loop-again-2 : tie.Need-loop-again-2 Inv-loop μ-loop
 loop-again-2 c =
     let kept = c .before .before .before .before in
     let done = kept .before .before in
-    kept-turn (view-turn done .loop .inv) (view-below done) _ (view-stepped done) (c .if5 .left)
+    kept-pass (view-pass done .loop .inv) (view-below done) _ (view-stepped done) (c .if5 .left)
 
 same-length-7 : tie.Need-same-length-7 Inv-loop μ-loop
 same-length-7 c = same-memory (c .before)

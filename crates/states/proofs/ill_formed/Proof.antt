@@ -11,8 +11,8 @@ use Rattle.states.proofs.ill_formed.Tie as tie
 sound-requires : tie.Need-sound-requires
 sound-requires c κs = search needs
 
-refuses-requires : tie.Need-refuses-requires
-refuses-requires c κs = search needs
+refuses-place-requires : tie.Need-refuses-place-requires
+refuses-place-requires c κs = search needs
 
 array-read-result : tie.Need-array-read-result
 array-read-result c = search needs
@@ -31,7 +31,7 @@ returns c =
     || (s .planted && not (s .shown))
     || (s .planted && r))
     (judged .sound .ensures)
-    (refused .refuses .ensures)
+    (refused .refuses-place .ensures)
 
 pub ill-formed-spec : {M : Type 1} → statement M
-ill-formed-spec = tie.close (tie.spec sound-requires refuses-requires array-read-result returns)
+ill-formed-spec = tie.close (tie.spec sound-requires refuses-place-requires array-read-result returns)

@@ -1,4 +1,4 @@
--- `load_halves` gives the sixteen half-words: the loop fills the array leaf by leaf. Assumes nothing.
+-- `load_halves` gives the sixteen half-words: the loop fills the array leaf by leaf.
 use Prim.Native.Nat.{_+_, _*_, _-_, _≤_}
 use mathlib.Core.Path.{refl}
 use native.Mathlib.Omega.{arith}

@@ -1,4 +1,4 @@
--- `store_leaf` leaves `stored`: the test on the way picks the definition's choice, and the stores are its stores. Assumes nothing.
+-- `store_leaf` leaves `stored`: the test on the way picks the definition's choice, and the stores are its stores.
 use mathlib.Core.Path.{_≡_, _∙_, ap}
 use mathlib.Core.Bool.{true, false}
 use Rattle.ram.specs.Ram.{storeHalf}

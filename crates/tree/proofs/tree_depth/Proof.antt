@@ -1,5 +1,5 @@
 -- `tree_depth` gives TREEVAL 0's tree: the loop fills the marks and the depths leaf by leaf, its value goes from leaf to leaf, and the
--- half-words that it judges by are the leaves' stored depths, which stand side by side. Assumes nothing.
+-- half-words that it judges by are the leaves' stored depths, which stand side by side.
 use Prim.Native.Nat.{ℕ, _+_, _*_, _-_, _/_, _≤_, _<_}
 use mathlib.Core.Path.{_≡_, _∙_, ap, ap₂}
 use mathlib.Core.Bool.{Bool, true, false, _&&_, _||_, not}

@@ -1,5 +1,5 @@
--- `tree_put` leaves `treePut`. The loop's invariant: the first `k` leaves are put, which are the definition's first `k` turns; the leaves'
--- half-words stand side by side from the first on. `.t3` is the tree, the third argument. Assumes nothing.
+-- `tree_put` leaves `treePut`. The loop's invariant: the first `k` leaves are put, which are the definition's first `k` passes; the leaves'
+-- half-words stand side by side from the first on. `.t3` is the tree, the third argument.
 use Prim.Native.Nat.{ℕ, _+_, _*_, _-_, _≤_, _<_}
 use mathlib.Core.Path.{_≡_, refl, sym, _∙_, ap, ap₂}
 use mathlib.Core.Logic.{⊎-elim}

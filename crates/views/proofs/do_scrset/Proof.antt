@@ -40,8 +40,8 @@ returns c =
     ∙ rw (c .before .if1 .taken))
     (λ q. omega (arith, q))
 
-with-screen-requires : tie.Need-with-screen-requires
-with-screen-requires c κs = search needs
+screened-requires : tie.Need-screened-requires
+screened-requires c κs = search needs
 
 go-requires : tie.Need-go-requires
 go-requires c κs = search needs
@@ -58,7 +58,7 @@ returns-2 c =
     ∙ ap (λ (t : Bool). choose (not t) 17 0) (sound-is judged)
     ∙ rw (test .if1 .left))
     _ (start .pre .0)
-    (c .go .ensures ∙ rw (c .before .with-screen .ensures, judged .before .screen-set .ensures))
+    (c .go .ensures ∙ rw (c .before .screened .ensures, judged .before .screen-set .ensures))
 
 pub do-scrset-spec : {M : Type 1} → statement M
 do-scrset-spec =
@@ -68,6 +68,6 @@ do-scrset-spec =
     sound-requires
     stop-requires
     returns
-    with-screen-requires
+    screened-requires
     go-requires
     returns-2)

@@ -14,14 +14,14 @@ use borrow.Author.Needs.{needs}
 use Rattle.views.proofs.do_treeset.Statement.{statement}
 use Rattle.views.proofs.do_treeset.Tie as tie
 
-refuses-is : (c : tie.After-refuses)
+refuses-is : (c : tie.After-refuses-place)
     → let entered = c .before .before .before .before in
     let a = entered .before .before .args in
-    refusesPlace (a .view .screen) (inR1 (now (a .regs)) (a .w)) (inR2 (now (a .regs)) (a .w)) ≡ c .refuses .result
+    refusesPlace (a .view .screen) (inR1 (now (a .regs)) (a .w)) (inR2 (now (a .regs)) (a .w)) ≡ c .refuses-place .result
 refuses-is c =
     let row = c .before .before .before in
     let a = row .before .before .before .args in
-    sym (c .refuses .ensures ∙ ap₂ (refusesPlace (a .view .screen)) (row .before .in-r1 .ensures) (row .in-r2 .ensures))
+    sym (c .refuses-place .ensures ∙ ap₂ (refusesPlace (a .view .screen)) (row .before .in-r1 .ensures) (row .in-r2 .ensures))
 
 in-r1-requires : tie.Need-in-r1-requires
 in-r1-requires c κs = search needs
@@ -42,8 +42,8 @@ returns c =
     (case-TREESET (length ram) (joined (now (a .regs)) (a .cpu) (a .view)) (a .w) (start .pre .0) ∙ rw (c .before .if1 .taken))
     (λ q. omega (arith, q))
 
-refuses-requires : tie.Need-refuses-requires
-refuses-requires c κs = search needs
+refuses-place-requires : tie.Need-refuses-place-requires
+refuses-place-requires c κs = search needs
 
 stop-requires-2 : tie.Need-stop-requires-2
 stop-requires-2 c κs = search needs
@@ -64,11 +64,11 @@ returns-2 c =
 in-r3-requires : tie.Need-in-r3-requires
 in-r3-requires c κs = search needs
 
-planted-requires : tie.Need-planted-requires
-planted-requires c κs = search needs
+tree-set-requires : tie.Need-tree-set-requires
+tree-set-requires c κs = search needs
 
-with-tree-requires : tie.Need-with-tree-requires
-with-tree-requires c κs = search needs
+treed-requires : tie.Need-treed-requires
+treed-requires c κs = search needs
 
 go-requires : tie.Need-go-requires
 go-requires c κs = search needs
@@ -88,7 +88,7 @@ returns-3 c =
     ∙ rw (test .if1 .left) (ap (λ (t : Bool). choose t 14 0) (refuses-is judged ∙ test2 .if2 .left)))
     _ (start .pre .0)
     (c .go .ensures
-    ∙ rw (c .before .with-tree .ensures, tree .planted .ensures)
+    ∙ rw (c .before .treed .ensures, tree .tree-set .ensures)
     (rw (row .before .in-r1 .ensures, row .in-r2 .ensures, tree .before .in-r3 .ensures)))
 
 pub do-treeset-spec : {M : Type 1} → statement M
@@ -99,11 +99,11 @@ do-treeset-spec =
     in-r2-requires
     stop-requires
     returns
-    refuses-requires
+    refuses-place-requires
     stop-requires-2
     returns-2
     in-r3-requires
-    planted-requires
-    with-tree-requires
+    tree-set-requires
+    treed-requires
     go-requires
     returns-3)

@@ -39,11 +39,11 @@ stop-requires c κs = search needs
 returns : tie.Need-returns
 returns c =
     λ memory.
-    let part = c .before .before .before in
-    let start = part .before .before .before .before in
+    let kind = c .before .before .before in
+    let start = kind .before .before .before .before in
     let a = start .args in
     view-stops (now (a .regs)) (a .cpu) (a .view) memory (now (a .ram)) (a .w) 14 _ (c .stop .ensures)
-    (halt-is part ∙ ap (λ (t : Bool). choose t 14 0) (c .before .if1 .taken))
+    (halt-is kind ∙ ap (λ (t : Bool). choose t 14 0) (c .before .if1 .taken))
     (λ q. omega (arith, q))
 
 in-r1-requires : tie.Need-in-r1-requires
@@ -56,10 +56,10 @@ tree-depth-requires : tie.Need-tree-depth-requires
 tree-depth-requires c κs =
     let entered = c .before .before .before .before in
     let test = entered .before in
-    let part = test .before .before in
-    let start = part .before .before .before .before in
+    let kind = test .before .before in
+    let start = kind .before .before .before .before in
     let v = start .args .view in
-    placed (start .pre .2) (not-false (v .planted) (or-none (not (v .planted)) (ltb 3 (part .imm .result)) (test .if1 .left) .0))
+    placed (start .pre .2) (not-false (v .planted) (or-none (not (v .planted)) (ltb 3 (kind .imm .result)) (test .if1 .left) .0))
 
 grow-requires : tie.Need-grow-requires
 grow-requires c κs = search needs
@@ -71,16 +71,16 @@ returns-2 c =
     let zero = next .before in
     let first = zero .before .before .before in
     let test = first .before .before in
-    let part = test .before .before in
-    let start = part .before .before .before .before in
+    let kind = test .before .before in
+    let start = kind .before .before .before .before in
     let a = start .args in
     grows-val (now (a .regs)) (a .cpu) (a .view) memory (now (a .ram)) (a .w)
-    (halt-is part ∙ ap (λ (t : Bool). choose t 14 0) (test .if1 .left))
+    (halt-is kind ∙ ap (λ (t : Bool). choose t 14 0) (test .if1 .left))
     _ _ _ (c .grow .ensures) (start .pre .0)
     (next .tree-depth .ensures
     ∙ ap₂ (λ (u v : ℕ). treeDepth (a .view .screen) (now (a .ram)) u v (a .view .tree))
     (first .in-r1 .ensures) (zero .before .in-r2 .ensures)
-    ∙ sym (val-depth (imm (a .w)) (a .view .screen) (now (a .ram)) _ _ (a .view .tree) (sym (part .imm .ensures) ∙ zero .if2 .taken)))
+    ∙ sym (val-depth (imm (a .w)) (a .view .screen) (now (a .ram)) _ _ (a .view .tree) (sym (kind .imm .ensures) ∙ zero .if2 .taken)))
 
 tree-colour-requires : tie.Need-tree-colour-requires
 tree-colour-requires c κs = search needs
@@ -95,16 +95,16 @@ returns-3 c =
     let zero = next .before in
     let first = zero .before .before .before in
     let test = first .before .before in
-    let part = test .before .before in
-    let start = part .before .before .before .before in
+    let kind = test .before .before in
+    let start = kind .before .before .before .before in
     let a = start .args in
     grows-val (now (a .regs)) (a .cpu) (a .view) memory (now (a .ram)) (a .w)
-    (halt-is part ∙ ap (λ (t : Bool). choose t 14 0) (test .if1 .left))
+    (halt-is kind ∙ ap (λ (t : Bool). choose t 14 0) (test .if1 .left))
     _ _ _ (c .grow2 .ensures) (start .pre .0)
     (next .tree-colour .ensures
-    ∙ ap (λ (i : ℕ). treeColour i (first .in-r1 .result) (zero .before .in-r2 .result) (a .view .tree)) (part .imm .ensures)
+    ∙ ap (λ (i : ℕ). treeColour i (first .in-r1 .result) (zero .before .in-r2 .result) (a .view .tree)) (kind .imm .ensures)
     ∙ ap₂ (λ (u v : ℕ). treeColour (imm (a .w)) u v (a .view .tree)) (first .in-r1 .ensures) (zero .before .in-r2 .ensures)
-    ∙ sym (val-colour (imm (a .w)) (a .view .screen) (now (a .ram)) _ _ (a .view .tree) (λ e. zero .if2 .left (part .imm .ensures ∙ e))))
+    ∙ sym (val-colour (imm (a .w)) (a .view .screen) (now (a .ram)) _ _ (a .view .tree) (λ e. zero .if2 .left (kind .imm .ensures ∙ e))))
 
 pub do-treeval-spec : {M : Type 1} → statement M
 do-treeval-spec =

@@ -22,8 +22,8 @@ r1-requires c κs = search needs
 put-requires : tie.Need-put-requires
 put-requires c κs = search needs
 
-with-tree-requires : tie.Need-with-tree-requires
-with-tree-requires c κs = search needs
+treed-requires : tie.Need-treed-requires
+treed-requires c κs = search needs
 
 go-requires : tie.Need-go-requires
 go-requires c κs = search needs
@@ -37,7 +37,7 @@ returns c =
       put .put .ensures
           ∙ ap₂ (withRegister (now (start .args .regs))) (put .before .r1 .ensures)
           (past .past-leaves .ensures ∙ ap₂ pastLeaves (first .in-r1 .ensures) (past .before .in-r2 .ensures)),
-      c .go .ensures ∙ rw (c .before .with-tree .ensures),
+      c .go .ensures ∙ rw (c .before .treed .ensures),
     )
 
 pub grow-spec : {M : Type 1} → statement M
@@ -49,6 +49,6 @@ grow-spec =
     past-leaves-requires
     r1-requires
     put-requires
-    with-tree-requires
+    treed-requires
     go-requires
     returns)

@@ -4,15 +4,15 @@ use Rattle.instructions.specs.Arithmetic.{sum, immediate}
 use Rattle.alu.proofs.fields.address.Statement.{statement}
 use Rattle.alu.proofs.fields.address.Tie as tie
 
-sign-extended-requires : tie.Need-sign-extended-requires
-sign-extended-requires c κs = tt
+immediate-requires : tie.Need-immediate-requires
+immediate-requires c κs = tt
 
 sum32-requires : tie.Need-sum32-requires
 sum32-requires c κs = tt
 
 returns : tie.Need-returns
 unfolding immediate
-returns c = c .sum32 .ensures ∙ ap (sum (c .before .before .args .base)) (c .before .sign-extended .ensures)
+returns c = c .sum32 .ensures ∙ ap (sum (c .before .before .args .base)) (c .before .immediate .ensures)
 
 pub address-spec : {M : Type 1} → statement M
-address-spec = tie.close (tie.spec sign-extended-requires sum32-requires returns)
+address-spec = tie.close (tie.spec immediate-requires sum32-requires returns)

@@ -18,11 +18,11 @@ put-requires c κs = search needs
 add-t8 : tie.Need-add-t8
 add-t8 c = search needs
 
-negative-requires : tie.Need-negative-requires
-negative-requires c κs = search needs
+negative-flag-requires : tie.Need-negative-flag-requires
+negative-flag-requires c κs = search needs
 
-zero-requires : tie.Need-zero-requires
-zero-requires c κs = search needs
+zero-flag-requires : tie.Need-zero-flag-requires
+zero-flag-requires c κs = search needs
 
 returns : tie.Need-returns
 returns c =
@@ -32,9 +32,9 @@ returns c =
     let flags : Bool → Bool → Cpu =
     λ n z. record { place = a .cpu .place + 1; negative = n; zero = z; halt = a .cpu .halt } in (
       put .put .ensures ∙ ap (λ (i : ℕ). withRegister (now (a .regs)) i (a .v)) (put .before .r1 .ensures),
-      ap₂ flags (c .before .negative .ensures) (c .zero .ensures),
+      ap₂ flags (c .before .negative-flag .ensures) (c .zero-flag .ensures),
     )
 
 pub put-result-spec : {M : Type 1} → statement M
 put-result-spec =
-    tie.close (tie.spec r1-requires put-requires add-t8 negative-requires zero-requires returns)
+    tie.close (tie.spec r1-requires put-requires add-t8 negative-flag-requires zero-flag-requires returns)

@@ -1,4 +1,4 @@
--- The loop's invariant is `Turn`: what holds after some of the pixels. Its laws are the loop's needs. The loop has the places and not the
+-- The loop's invariant is `Pass`: what holds after some of the pixels. Its laws are the loop's needs. The loop has the places and not the
 -- screen, so the invariant is said of every screen that has them.
 use Prim.Native.Nat.{ℕ, _+_, _*_, _-_, _<_}
 use mathlib.Core.Path.{_≡_, sym, subst₂}
@@ -10,7 +10,7 @@ use Rattle.rules.proofs.Pixels.{sound-facts, width-le, height-le, colour-fits, 
 use Rattle.rows.specs.Lines.{line, writing}
 use Rattle.rows.specs.Pixels.{PixelDone, chunkFrom, WordAsked}
 use Rattle.rows.proofs.Stretch.{covered-on}
-use Rattle.rows.proofs.Running.{next, Turn, turn-first, turn-more, turn-last, length-now, some-left, on-screen, few-written}
+use Rattle.rows.proofs.Running.{next, Pass, pass-first, pass-more, pass-last, length-now, some-left, on-screen, few-written}
 use Rattle.rows.proofs.Running.{colour-from, depth-from}
 use Rattle.rows.proofs.pixels.enabled.Statement.{statement}
 use Rattle.rows.proofs.pixels.enabled.Tie as tie
@@ -21,30 +21,30 @@ Inv-loop ram₀ t a y wide given colour depth v₀ on₀ written₀ i₀ ram v o
     → WordAsked (line s t y) a wide (writing ram₀ given)
     → colour ≡ colourAt s a y
     → depth ≡ depthAt s a y
-    → Turn (line s t y) a (writing ram₀ given) (writing ram written) (next i v on)
+    → Pass (line s t y) a (writing ram₀ given) (writing ram written) (next i v on)
 
 abbrev μ-loop : tie.MeasureT-loop
 μ-loop ram₀ t a y wide given colour depth v₀ on₀ written₀ i₀ ram v on written i = chunkFrom a - i
 
 -- what holds at the loop's head; `places` is where the colour's place is known, and the place before it the function's entry
-turn : (c : tie.At-loop Inv-loop μ-loop) →
+pass : (c : tie.At-loop Inv-loop μ-loop) →
     let places = c .before .before .before in
     let a = places .before .before .args in
     let l = c .loop in
-    Turn (line (a .s) (a .t) (a .y)) (a .a) (writing (a .ram .now) (a .given)) (writing (l .ram) (l .written))
+    Pass (line (a .s) (a .t) (a .y)) (a .a) (writing (a .ram .now) (a .given)) (writing (l .ram) (l .written))
     (next (l .i) (l .v) (l .on))
-turn c =
+pass c =
     let places = c .before .before .before in
     let q = places .before .before in
     c .loop .inv (q .args .s) (q .pre) (places .colour-at .ensures) (c .before .before .depth-at .ensures)
 
--- a turn is a pixel of the chunk
+-- a pass is a pixel of the chunk
 short : (c : tie.In-loop Inv-loop μ-loop) →
     let places = c .before .before .before .before in
     c .before .loop .i < chunkFrom (places .before .before .args .a)
 short c =
     let places = c .before .before .before .before in
-    some-left (places .before .before .pre) (turn (c .before)) (c .loop-test .taken)
+    some-left (places .before .before .pre) (pass (c .before)) (c .loop-test .taken)
 
 -- the pixel's half-words are in the RAM
 fits : (c : tie.In-loop Inv-loop μ-loop) →
@@ -61,7 +61,7 @@ fits c =
     let q = places .before .before in
     let a = q .args in
     let k = sound-facts (q .pre .is-sound) in
-    let u = turn (c .before) in
+    let u = pass (c .before) in
     let p = on-screen (q .pre) u (c .loop-test .taken) in
     let e = length-now (q .pre) u in
     let i = colour-from (a .s) (a .a) (a .y) (l .i) (places .colour-at .ensures) in
@@ -92,7 +92,7 @@ shl-on : tie.Need-shl-on Inv-loop μ-loop
 shl-on c = omega arith
 
 loop-holds : tie.Need-loop-holds Inv-loop μ-loop
-loop-holds c = λ s asked i j. turn-first asked (c .tints-at .ensures)
+loop-holds c = λ s asked i j. pass-first asked (c .tints-at .ensures)
 
 cast-past : tie.Need-cast-past Inv-loop μ-loop
 cast-past c = omega (arith, short c)
@@ -113,7 +113,7 @@ pixel-requires c κs =
     let places = loop .before .before .before in (
       fits test .0,
       fits test .1,
-      few-written (places .before .before .pre) (turn loop) (test .loop-test .taken),
+      few-written (places .before .before .pre) (pass loop) (test .loop-test .taken),
     )
 
 tints-right-requires : tie.Need-tints-right-requires Inv-loop μ-loop
@@ -139,7 +139,7 @@ loop-again c =
     let l = loop .loop in
     let f = pixel .pixel in
     λ s asked i j.
-    turn-more asked (l .inv s asked i j) (test .loop-test .taken)
+    pass-more asked (l .inv s asked i j) (test .loop-test .taken)
     (subst₂ (λ (m n : ℕ). PixelDone m n (l .v) (writing (l .ram) (l .written)) (writing (f .last .0) (f .result)))
     (colour-from s (a .a) (a .y) (l .i) i) (depth-from s (a .a) (a .y) (l .i) j) (f .ensures))
     (c .tints-right .ensures)
@@ -147,12 +147,12 @@ loop-again c =
 same-length : tie.Need-same-length Inv-loop μ-loop
 same-length c =
     let places = c .before .before .before .before in
-    length-now (places .before .before .pre) (turn (c .before))
+    length-now (places .before .before .pre) (pass (c .before))
 
 returns : tie.Need-returns Inv-loop μ-loop
 returns c =
     let places = c .before .before .before .before in
-    turn-last (places .before .before .pre) (turn (c .before)) (c .loop-test .left)
+    pass-last (places .before .before .pre) (pass (c .before)) (c .loop-test .left)
 
 pub enabled-spec : {M : Type 1} → statement M
 enabled-spec =

@@ -1,4 +1,4 @@
--- `clear::clear`: a refusal leaves the memory as it was, and else the areas filled are the clear. Assumes nothing.
+-- `clear::clear`: a refusal leaves the memory as it was, and else the areas filled are the clear.
 use mathlib.Core.Path.{sym, _∙_}
 use borrow.Author.Needs.{needs}
 use Rattle.rules.proofs.Refusals.{screen-number-passed}

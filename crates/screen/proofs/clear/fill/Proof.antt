@@ -1,5 +1,5 @@
 -- `clear::fill` leaves `filled`. The loop's invariant: `a` is a number of half-words past the start, and those are stored. The
--- measure is what is left before the end. Assumes nothing.
+-- measure is what is left before the end.
 use Prim.Native.Nat.{_-_, _/_, _%_, _≤_}
 use mathlib.Core.Path.{_≡_, _∙_, ap}
 use native.Mathlib.Omega.{arith}

@@ -1,4 +1,4 @@
--- `clear::fill_areas`: the two fills are the clear. Assumes nothing.
+-- `clear::fill_areas`: the two fills are the clear.
 use native.Mathlib.Omega.{arith}
 use lib.ListN.{length}
 use borrow.Author.Needs.{needs}

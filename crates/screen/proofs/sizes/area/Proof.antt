@@ -1,4 +1,4 @@
--- `sizes::area` is the definition's product, which at any size number is below 2^37. Assumes nothing.
+-- `sizes::area` is the definition's product, which at any size number is below 2^37.
 use native.Mathlib.Omega.{arith}
 use borrow.Author.Needs.{needs}
 use Rattle.screen.proofs.Bounds.{area-small}

@@ -1,4 +1,4 @@
--- `sizes::between` tests the two bounds in turn. Assumes nothing.
+-- `sizes::between` tests the two bounds in turn.
 use borrow.Author.Tests.{le-leb, lt-leb}
 use Rattle.screen.proofs.sizes.between.Statement.{statement}
 use Rattle.screen.proofs.sizes.between.Tie as tie

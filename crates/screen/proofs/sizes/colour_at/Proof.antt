@@ -1,4 +1,4 @@
--- `sizes::colour_at` is `stands_at` from the colour start. Assumes nothing.
+-- `sizes::colour_at` is `stands_at` from the colour start.
 use borrow.Author.Needs.{needs}
 use Rattle.rules.specs.Sizes.{colourAt}
 use Rattle.screen.proofs.sizes.colour_at.Statement.{statement}

@@ -1,4 +1,4 @@
--- `sizes::depth_at` is `stands_at` from the depth start. Assumes nothing.
+-- `sizes::depth_at` is `stands_at` from the depth start.
 use borrow.Author.Needs.{needs}
 use Rattle.rules.specs.Sizes.{depthAt}
 use Rattle.screen.proofs.sizes.depth_at.Statement.{statement}

@@ -1,4 +1,4 @@
--- `sizes::even_starts` tests the two remainders in turn. Assumes nothing.
+-- `sizes::even_starts` tests the two remainders in turn.
 use borrow.Author.Tests.{eq-eqb, ne-eqb}
 use Rattle.screen.proofs.Tests.{and-true, and-false}
 use Rattle.screen.proofs.sizes.even_starts.Statement.{statement}

@@ -1,4 +1,4 @@
--- `sizes::pixel_count` is the product, which at any size number is below 2^36. Assumes nothing.
+-- `sizes::pixel_count` is the product, which at any size number is below 2^36.
 use native.Mathlib.Omega.{arith}
 use borrow.Author.Needs.{needs}
 use Rattle.screen.proofs.Bounds.{area-small}

@@ -1,4 +1,4 @@
--- `sizes::screen_number`: the definition's two tests, in its order. Assumes nothing.
+-- `sizes::screen_number`: the definition's two tests, in its order.
 use mathlib.Core.Bool.{not}
 use mathlib.Core.Path.{sym, _∙_, ap}
 use borrow.Author.Needs.{needs}

@@ -1,4 +1,4 @@
--- `sizes::size_in_range`: the definition's four tests, taken two and two. Assumes nothing.
+-- `sizes::size_in_range`: the definition's four tests, taken two and two.
 use Prim.Native.Nat.{ℕ}
 use mathlib.Core.Path.{_≡_, sym, _∙_}
 use mathlib.Core.Bool.{_&&_}

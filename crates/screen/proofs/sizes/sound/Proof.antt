@@ -1,4 +1,4 @@
--- `sizes::sound`: the size, then the areas. Assumes nothing.
+-- `sizes::sound`: the size, then the areas.
 use mathlib.Core.Path.{_≡_, sym, _∙_}
 use mathlib.Core.Bool.{true}
 use borrow.Author.Tests.{not-true, not-false}

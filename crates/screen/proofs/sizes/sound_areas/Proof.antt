@@ -1,4 +1,4 @@
--- `sizes::sound_areas`: the definition's three parts, tested in its order. Assumes nothing.
+-- `sizes::sound_areas`: the definition's three parts, tested in its order.
 use mathlib.Core.Path.{_≡_, sym, _∙_, ap}
 use mathlib.Core.Bool.{true}
 use native.Mathlib.Omega.{arith}

@@ -1,4 +1,4 @@
--- `sizes::stands_at` is the definition's sum; its offset is below 2^60 at any size number and pixel. Assumes nothing.
+-- `sizes::stands_at` is the definition's sum; its offset is below 2^60 at any size number and pixel.
 use Prim.Native.Nat.{_+_, _*_, _^_, _<_}
 use native.Mathlib.Omega.{arith}
 use borrow.Author.Needs.{needs}

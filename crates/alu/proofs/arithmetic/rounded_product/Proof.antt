@@ -7,8 +7,8 @@ use Rattle.ints.specs.Modulo.{mod32}
 use Rattle.ints.proofs.Machine.{Code, _⊠_, shr, need, reads-as}
 use Rattle.instructions.specs.Arithmetic.{roundedProduct}
 use Rattle.alu.proofs.Readings.{reading}
-use Rattle.alu.proofs.arithmetic.mulf.Statement.{statement}
-use Rattle.alu.proofs.arithmetic.mulf.Tie as tie
+use Rattle.alu.proofs.arithmetic.rounded_product.Statement.{statement}
+use Rattle.alu.proofs.arithmetic.rounded_product.Tie as tie
 
 signed-requires : tie.Need-signed-requires
 signed-requires c κs = tt
@@ -34,5 +34,5 @@ returns c =
     ∙ ap mod32 (reads-as (shr (full (c .before)) 65536) tt
     ∙ ap₂ (λ (z y : ℤ). shrZ (z *ℤ y) 65536) (c .before .before .signed .ensures) (c .before .signed2 .ensures))
 
-pub mulf-spec : {M : Type 1} → statement M
-mulf-spec = tie.close (tie.spec signed-requires signed-requires-2 mul-low32 low32-requires returns)
+pub rounded-product-spec : {M : Type 1} → statement M
+rounded-product-spec = tie.close (tie.spec signed-requires signed-requires-2 mul-low32 low32-requires returns)

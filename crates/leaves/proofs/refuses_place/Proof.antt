@@ -1,12 +1,12 @@
--- `refuses` makes the three tests of `refusesPlace`. Assumes nothing.
+-- `refuses_place` makes the three tests of `refusesPlace`.
 use Prim.Native.Nat.{ℕ, _%_}
 use mathlib.Core.Path.{ap₂}
 use mathlib.Core.Bool.{_&&_, not}
 use lib.Dec.{ltb, eqb}
 use borrow.Author.Needs.{needs}
 use Rattle.instructions.specs.Tree.{refusesPlace}
-use Rattle.leaves.proofs.refuses.Statement.{statement}
-use Rattle.leaves.proofs.refuses.Tie as tie
+use Rattle.leaves.proofs.refuses_place.Statement.{statement}
+use Rattle.leaves.proofs.refuses_place.Tie as tie
 
 width-requires : tie.Need-width-requires
 width-requires c κs = search needs
@@ -21,5 +21,5 @@ returns c =
     ap₂ (λ (w h : ℕ). not (eqb (a .column % 16) 0 && ltb (a .column) w && ltb (a .row) h))
     (c .before .width .ensures) (c .height .ensures)
 
-pub refuses-spec : {M : Type 1} → statement M
-refuses-spec = tie.close (tie.spec width-requires height-requires returns)
+pub refuses-place-spec : {M : Type 1} → statement M
+refuses-place-spec = tie.close (tie.spec width-requires height-requires returns)

@@ -10,8 +10,8 @@ use borrow.Author.Tests.{ltb-true, ltb-false}
 use Rattle.rules.specs.Folds.{choose}
 use Rattle.instructions.specs.Words.{signExtended}
 use Rattle.instructions.specs.Arithmetic.{immediate}
-use Rattle.alu.proofs.fields.sign_extended.Statement.{statement}
-use Rattle.alu.proofs.fields.sign_extended.Tie as tie
+use Rattle.alu.proofs.fields.immediate.Statement.{statement}
+use Rattle.alu.proofs.fields.immediate.Tie as tie
 
 add-result : tie.Need-add-result
 add-result c = search needs
@@ -31,5 +31,5 @@ returns : tie.Need-returns
 unfolding immediate signExtended
 returns c = moved (c .args .n) (ltb (c .args .n % 65536) 32768) refl
 
-pub sign-extended-spec : {M : Type 1} → statement M
-sign-extended-spec = tie.close (tie.spec add-result add-result-2 cast-result returns)
+pub immediate-spec : {M : Type 1} → statement M
+immediate-spec = tie.close (tie.spec add-result add-result-2 cast-result returns)

@@ -8,8 +8,8 @@ use Rattle.ints.specs.Modulo.{mod32}
 use Rattle.ints.proofs.Machine.{got-lit, Code, known, quot, need, reads-as}
 use Rattle.instructions.specs.Arithmetic.{reciprocal}
 use Rattle.alu.proofs.Readings.{reading, not-zero}
-use Rattle.alu.proofs.arithmetic.recp.Statement.{statement}
-use Rattle.alu.proofs.arithmetic.recp.Tie as tie
+use Rattle.alu.proofs.arithmetic.reciprocal.Statement.{statement}
+use Rattle.alu.proofs.arithmetic.reciprocal.Tie as tie
 
 returns : tie.Need-returns
 unfolding reciprocal
@@ -37,5 +37,5 @@ returns-2 c =
     (c .low32 .ensures
     ∙ ap mod32 (reads-as (quotient (c .before)) tt ∙ ap (quotZ (pos 2147483647)) (c .before .signed .ensures)))
 
-pub recp-spec : {M : Type 1} → statement M
-recp-spec = tie.close (tie.spec returns signed-requires div-low32 low32-requires returns-2)
+pub reciprocal-spec : {M : Type 1} → statement M
+reciprocal-spec = tie.close (tie.spec returns signed-requires div-low32 low32-requires returns-2)

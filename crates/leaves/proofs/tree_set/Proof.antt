@@ -1,4 +1,4 @@
--- `planted` gives TREESET's tree: the loop fills the marks leaf by leaf, so they are `leaves` of the mask's bits. Assumes nothing.
+-- `tree_set` gives TREESET's tree: the loop fills the marks leaf by leaf, so they are `leaves` of the mask's bits.
 use Prim.Native.Nat.{_-_, _≤_}
 use mathlib.Core.Path.{_≡_, refl}
 use mathlib.Core.Bool.{false, not}
@@ -7,8 +7,8 @@ use lib.ListN.{replicate}
 use borrow.Author.Needs.{needs}
 use Rattle.instructions.specs.Tree.{each, maskBit, treeSet}
 use Rattle.instructions.proofs.Filled.{Filled, filled-none, filled-more, filled-all}
-use Rattle.leaves.proofs.planted.Statement.{statement}
-use Rattle.leaves.proofs.planted.Tie as tie
+use Rattle.leaves.proofs.tree_set.Statement.{statement}
+use Rattle.leaves.proofs.tree_set.Tie as tie
 
 abbrev Inv-loop : tie.InvT-loop
 Inv-loop column row mask inside₀ outside₀ k₀ inside outside k =
@@ -63,8 +63,8 @@ returns c =
       held = false;
     }
 
-pub planted-spec : {M : Type 1} → statement M
-planted-spec =
+pub tree-set-spec : {M : Type 1} → statement M
+tree-set-spec =
     tie.close
     (tie.spec
     Inv-loop
