@@ -26,7 +26,7 @@ pub record Machine : Type 0 where
 abbrev pub together : State → List ℕ → List ℕ → Machine
 together s memory ram = record { state = s; memory = memory; ram = ram }
 
--- a part replaced, all else kept
+-- one field replaced, all else kept
 abbrev pub withState : State → Machine → Machine
 withState s m = record { state = s; memory = m .memory; ram = m .ram }
 
