@@ -68,5 +68,5 @@ unfolding partBytes
 handed-back {at} {ram} l i = record {
   bytes = i .holds ∙ ap₂ (λ a k. take k (drop a (now ram))) (l .starts) (l .spans);
   block = i .block;
-  place = i .place ∙ ap (λ a. ram .ptr .1 + a) (l .starts);
+  offset = i .offset ∙ ap (λ a. ram .ptr .1 + a) (l .starts);
 }

@@ -23,4 +23,4 @@ pub hands-back-unique : {at : Area} {ram p q : RefT (List ℕ)} {s : Screen} {ro
     → HandsBack at ram s row p
     → HandsBack at ram s row q
     → (now p ≡ now q) × (p .ptr ≡ q .ptr)
-hands-back-unique a b = (a .bytes ∙ sym (b .bytes), λ i. ((a .block ∙ sym (b .block)) i, (a .place ∙ sym (b .place)) i))
+hands-back-unique a b = (a .bytes ∙ sym (b .bytes), λ i. ((a .block ∙ sym (b .block)) i, (a .offset ∙ sym (b .offset)) i))

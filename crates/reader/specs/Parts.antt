@@ -15,4 +15,4 @@ beginsAt first s x y = first
 pub record IsPart (ram : RefT (List ℕ)) (part : RowPart) (bytes : RefT (List ℕ)) : Type 0 where
   pub holds : now bytes ≡ take (part .length) (drop (part .start) (now ram))
   pub block : bytes .ptr .0 ≡ ram .ptr .0
-  pub place : bytes .ptr .1 ≡ ram .ptr .1 + part .start
+  pub offset : bytes .ptr .1 ≡ ram .ptr .1 + part .start

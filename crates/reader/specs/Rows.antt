@@ -25,4 +25,4 @@ pub record Locates (at : Area) (ramLength : ℕ) (s : Screen) (row : ℕ) (part 
 pub record HandsBack (at : Area) (ram : RefT (List ℕ)) (s : Screen) (row : ℕ) (part : RefT (List ℕ)) : Type 0 where
   pub bytes : now part ≡ partBytes at (now ram) s row
   pub block : part .ptr .0 ≡ ram .ptr .0
-  pub place : part .ptr .1 ≡ ram .ptr .1 + partStart at (length (now ram)) s row
+  pub offset : part .ptr .1 ≡ ram .ptr .1 + partStart at (length (now ram)) s row

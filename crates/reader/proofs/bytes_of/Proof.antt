@@ -21,7 +21,7 @@ part-result-end c = search needs
 returns : tie.Need-returns
 returns c =
     let a = c .before .args in
-    record { holds = own-bytes (a .ram .now) (a .part .start) (a .part .length); block = refl; place = omega arith }
+    record { holds = own-bytes (a .ram .now) (a .part .start) (a .part .length); block = refl; offset = omega arith }
 
 pub bytes-of-spec : {M : Type 1} → statement M
 bytes-of-spec = tie.close (tie.spec add-end sub-result part-result-start part-result-end returns)
