@@ -1,6 +1,7 @@
 // The calls as C and Rust link them: include/merikohin.h declares each.
 use border::LentState;
 use border::lent_state;
+use border::state_copied;
 use lends::LentRan;
 use lends::LentStepped;
 use lends::run_lent;
@@ -84,6 +85,6 @@ pub extern "C" fn merikohin_step(
     LentStepped {
         number: end.number,
         carried: end.steps as u32,
-        state: last,
+        state: state_copied(last),
     }
 }

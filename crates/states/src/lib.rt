@@ -42,22 +42,21 @@ pub fn fresh() -> State
     }
 }
 
-// `len` is that of the RAM.
+// `len` is that of the RAM. A screen and a tree's place are judged only where there is a screen.
 pub fn ill_formed(len: usize, state: State) -> bool
     ensures { λ r. ⌜ r ≡ illFormed len state ⌝ }
 {
-    let screen = state.screen;
-    let tree = state.tree;
     let regs = state.regs;
     let halt = state.halt;
     let known = (halt == 0) | (11 <= halt) & (halt <= 17);
+    let wrong = (regs[0] != 0) | !known;
+    if !state.shown {
+        return wrong | state.planted;
+    }
+    let screen = state.screen;
+    let tree = state.tree;
     let unsound = !sound(len, screen);
-    let refused = refuses_place(screen, tree.column, tree.row);
-    (regs[0] != 0)
-        | !known
-        | state.shown & unsound
-        | state.planted & !state.shown
-        | state.planted & refused
+    wrong | unsound | state.planted & refuses_place(screen, tree.column, tree.row)
 }
 
 // The lowest number that applies.

@@ -1,12 +1,60 @@
--- The tests are the definition's.
-use mathlib.Core.Path.{ap₂}
-use mathlib.Core.Bool.{Bool, _&&_, _||_, not}
+-- The tests are the definition's. Where there is no screen, what is left of them is whether there is a tree.
+use Prim.Native.Nat.{ℕ}
+use mathlib.Core.Path.{_≡_, refl, sym, _∙_, ap₂}
+use mathlib.Core.Bool.{Bool, true, false, _&&_, _||_, not, false≢true, true≢false}
 use lib.Dec.{eqb}
+use Rattle.rules.specs.Sizes.{sound}
+use Rattle.instructions.specs.declared.State.{State}
+use Rattle.instructions.specs.Tree.{refusesPlace}
 use Rattle.instructions.specs.Words.{register}
 use Rattle.instructions.specs.Run.{isHaltNumber, illFormed}
 use borrow.Author.Needs.{needs}
 use Rattle.states.proofs.ill_formed.Statement.{statement}
 use Rattle.states.proofs.ill_formed.Tie as tie
+
+abbrev wrong : State → Bool
+wrong s = not (eqb (register (s .regs) 0) 0) || not (isHaltNumber (s .halt))
+
+abbrev unsound : ℕ → State → Bool
+unsound len s = not (sound len (s .screen))
+
+abbrev refused : State → Bool
+refused s = refusesPlace (s .screen) (s .tree .column) (s .tree .row)
+
+-- the definition's tests: what is wrong with any state; a screen that is unsound, a tree and no screen, a tree whose place is refused
+abbrev judged : Bool → Bool → Bool → Bool → Bool → Bool
+judged wrong shown unsound planted refused = wrong || shown && unsound || planted && not shown || planted && refused
+
+module _ (wrong shown unsound planted refused : Bool) where
+  none-shown : not shown ≡ true → wrong || planted ≡ judged wrong shown unsound planted refused
+  none-shown = go wrong shown planted
+    where
+      go : (w s p : Bool) → not s ≡ true → w || p ≡ judged w s unsound p refused
+      go w true p e = absurd (false≢true e)
+      go true false p e = refl
+      go false false true e = refl
+      go false false false e = refl
+
+  one-shown : not shown ≡ false → wrong || unsound || planted && refused ≡ judged wrong shown unsound planted refused
+  one-shown = go wrong shown unsound planted
+    where
+      go : (w s u p : Bool) → not s ≡ false → w || u || p && refused ≡ judged w s u p refused
+      go true s u p e = refl
+      go false true true p e = refl
+      go false true false true e = refl
+      go false true false false e = refl
+      go false false u p e = absurd (true≢false e)
+
+array-read-wrong : tie.Need-array-read-wrong
+array-read-wrong c = search needs
+
+returns : tie.Need-returns
+unfolding illFormed
+returns c =
+    let none = c .before in
+    let a = none .before .before .before .args in
+    let s = a .state in
+    none-shown (wrong s) (s .shown) (unsound (a .len) s) (s .planted) (refused s) (none .if1 .taken)
 
 sound-requires : tie.Need-sound-requires
 sound-requires c κs = search needs
@@ -14,24 +62,18 @@ sound-requires c κs = search needs
 refuses-place-requires : tie.Need-refuses-place-requires
 refuses-place-requires c κs = search needs
 
-array-read-result : tie.Need-array-read-result
-array-read-result c = search needs
-
-returns : tie.Need-returns
+returns-2 : tie.Need-returns-2
 unfolding illFormed
-returns c =
-    let refused = c .before .before .before .before in
-    let judged = refused .before in
-    let s = judged .before .before .before .before .args .state in
-    ap₂
-    (λ (t r : Bool).
-    not (eqb (register (s .regs) 0) 0)
-    || not (isHaltNumber (s .halt))
-    || (s .shown && not t)
-    || (s .planted && not (s .shown))
-    || (s .planted && r))
-    (judged .sound .ensures)
-    (refused .refuses-place .ensures)
+returns-2 c =
+    let placed = c .before in
+    let sounded = placed .before in
+    let one = sounded .before .before .before in
+    let a = one .before .before .before .args in
+    let s = a .state in
+    ap₂ (λ (t r : Bool). wrong s || not t || s .planted && r) (sounded .sound .ensures) (placed .refuses-place .ensures)
+    ∙ one-shown (wrong s) (s .shown) (unsound (a .len) s) (s .planted) (refused s) (one .if1 .left)
 
 pub ill-formed-spec : {M : Type 1} → statement M
-ill-formed-spec = tie.close (tie.spec sound-requires refuses-place-requires array-read-result returns)
+ill-formed-spec =
+    tie.close
+    (tie.spec array-read-wrong returns sound-requires refuses-place-requires returns-2)
