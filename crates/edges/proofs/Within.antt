@@ -1,15 +1,17 @@
--- An edge between vertices in range: its numbers are within 8,192, its value at a pixel within 419,659,776, and a callee that reads it from
--- the machine's words reads the same edge. Said once over the edge.
-use Prim.Native.Nat.{ℕ, _≤_}
+-- An edge between vertices in range: its numbers are within 8,192, its value at a pixel within 419,659,776 and, on the largest screen,
+-- within 415,079,688; and a callee that reads it from the machine's words reads the same edge. Said once over the edge.
+use Prim.Native.Nat.{ℕ, _≤_, _<_}
 use mathlib.Core.Path.{_≡_, _∙_, ap}
 use mathlib.Core.Bool.{true, _&&_}
+use mathlib.Core.List.{List, [], _∷_}
 use native.Mathlib.Omega.{arith}
-use lib.IntN.{ℤ, pos, negsuc}
+use lib.IntN.{ℤ, pos, negsuc, _-ℤ_}
 use lib.Signed.{leZ}
 use mir.Syntax.{w32}
 use mir.Val.{toZ, ofZ}
 use mir.ValLaws.{toZ-ofZ}
-use Rattle.ints.proofs.Order.{leZ-true}
+use Rattle.ints.proofs.Poly.{var, con, _⊖_}
+use Rattle.ints.proofs.Order.{leZ-true, le-of, le-to}
 use Rattle.ints.proofs.Bounds.{Within, within-pos, within-range, within-lit, within-sub, within-mul, fits-32}
 use Rattle.rules.specs.declared.Vertices.{Vertices}
 use Rattle.rules.specs.Triangles.{Edge, edge1, edge2, edge3, edgeValue, sample}
@@ -28,16 +30,27 @@ vertex-within v h =
     let b = and-true {a = leZ (negsuc 8191) v} h in
     within-range (within-lit tt) (within-lit tt) (leZ-true (negsuc 8191) v (b .0)) (leZ-true v (pos 8191) (b .1))
 
-pub edge-within : (e : Edge) → edgeInRange e ≡ true → EdgeWithin e
-edge-within e h =
+record Four (e : Edge) : Type 0 where
+  in-x1 : vertexInRange (e .x1) ≡ true
+  in-y1 : vertexInRange (e .y1) ≡ true
+  in-x2 : vertexInRange (e .x2) ≡ true
+  in-y2 : vertexInRange (e .y2) ≡ true
+
+four : (e : Edge) → edgeInRange e ≡ true → Four e
+four e h =
     let d = and-true {b = vertexInRange (e .y2)} h in
     let c = and-true {b = vertexInRange (e .x2)} (d .0) in
     let b = and-true {b = vertexInRange (e .y1)} (c .0) in
+    record { in-x1 = b .0; in-y1 = b .1; in-x2 = c .1; in-y2 = d .1 }
+
+pub edge-within : (e : Edge) → edgeInRange e ≡ true → EdgeWithin e
+edge-within e h =
+    let f = four e h in
     record {
-      in-x1 = vertex-within (e .x1) (b .0);
-      in-y1 = vertex-within (e .y1) (b .1);
-      in-x2 = vertex-within (e .x2) (c .1);
-      in-y2 = vertex-within (e .y2) (d .1);
+      in-x1 = vertex-within (e .x1) (f .in-x1);
+      in-y1 = vertex-within (e .y1) (f .in-y1);
+      in-x2 = vertex-within (e .x2) (f .in-x2);
+      in-y2 = vertex-within (e .y2) (f .in-y2);
     }
 
 module _ (e : Edge) (w : EdgeWithin e) where
@@ -48,6 +61,40 @@ module _ (e : Edge) (w : EdgeWithin e) where
       within-sub
       (within-mul (within-sub (within-pos {n = 4103} (omega arith)) (w .in-y1)) (within-sub (w .in-x2) (w .in-x1)))
       (within-mul (within-sub (within-pos {n = 5127} (omega arith)) (w .in-x1)) (within-sub (w .in-y2) (w .in-y1)))
+
+-- the difference of two vertex numbers, by both ends of their range
+difference-within : (a b : ℤ) → vertexInRange a ≡ true → vertexInRange b ≡ true → Within 16383 (b -ℤ a)
+difference-within a b h k =
+    let (a-low, a-high) = and-true {a = leZ (negsuc 8191) a} h in
+    let (b-low, b-high) = and-true {a = leZ (negsuc 8191) b} k in
+    let ρ : List ℤ = a ∷ b ∷ [] in
+    within-range (within-lit tt) (within-lit tt)
+    (le-of ρ (con (negsuc 16382)) (var 1 ⊖ var 0)
+    (omega (
+      arith,
+      le-to ρ (con (negsuc 8191)) (var 1) (leZ-true (negsuc 8191) b b-low),
+      le-to ρ (var 0) (con (pos 8191)) (leZ-true a (pos 8191) a-high),
+    )))
+    (le-of ρ (var 1 ⊖ var 0) (con (pos 16383))
+    (omega (
+      arith,
+      le-to ρ (con (negsuc 8191)) (var 0) (leZ-true (negsuc 8191) a a-low),
+      le-to ρ (var 1) (con (pos 8191)) (leZ-true b (pos 8191) b-high),
+    )))
+
+-- at the sample point, on a screen up to 640 by 480
+pub value-bound : (e : Edge) → edgeInRange e ≡ true → (x y : ℕ) → x < 640 → y < 480 → Within 415079688 (edgeValue e (sample x y))
+unfolding edgeValue sample
+value-bound e h x y hx hy =
+    let f = four e h in
+    let w = edge-within e h in
+    within-sub
+    (within-mul
+    (within-sub (within-pos {n = 3836} (omega arith)) (w .in-y1))
+    (difference-within (e .x1) (e .x2) (f .in-x1) (f .in-x2)))
+    (within-mul
+    (within-sub (within-pos {n = 5116} (omega arith)) (w .in-x1))
+    (difference-within (e .y1) (e .y2) (f .in-y1) (f .in-y2)))
 
 -- the three edges
 

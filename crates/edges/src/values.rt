@@ -6,7 +6,7 @@ ghost use Rattle.rules.specs.Triangles.{edgeValue, sample};
 ghost use Rattle.edges.specs.Edges.{edgeFrom, edgeInRange};
 
 // How far to the right and down in its pixel the sample point lies.
-pub const SAMPLE_OFFSET: i64 = 0;
+pub const SAMPLE_OFFSET: i64 = 4;
 
 // The edge's value at pixel (x, y).
 pub fn edge_value(x1: i32, y1: i32, x2: i32, y2: i32, x: u32, y: u32) -> i64

@@ -9,6 +9,7 @@ pub mod Missed
 pub mod Signs
 pub mod Counts
 pub mod Rectangle
+pub mod Moved
 pub mod Area
 pub mod Lists
 pub mod Rows

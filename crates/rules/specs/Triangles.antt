@@ -1,5 +1,5 @@
--- docs/RULES.md, 3.4, 4, 5 and 6.2 (01, "Triangles"): planes, the sample point, the edge value, the tie rule, which pixels are covered
--- and which are written.
+-- docs/RULES.md, 3.4, 4, 5 and 6.2 (01, "Triangles", with the sample point of 02's M-100): planes, the sample point, the edge value, the
+-- tie rule, which pixels are covered and which are written.
 use Prim.Native.Nat.{ℕ, zero, suc, _+_, _*_, _/_, _%_}
 use mathlib.Core.Bool.{Bool, true, false, _&&_, _||_}
 use mathlib.Core.List.{List}
@@ -39,12 +39,16 @@ pub record Point : Type 0 where
   pub px : ℤ
   pub py : ℤ
 
--- "A pixel is sampled at the point (8x, 8y)": nothing is added to 8x and 8y.
+-- the point of pixel (x, y) that lies so many eighths to the right of its upper left corner, and as many below
+abbrev pub pointIn : ℕ → ℕ → ℕ → Point
+pointIn offset x y = record { px = pos (8 * x + offset); py = pos (8 * y + offset) }
+
+-- "pixel (x, y) is sampled at (8x + 4, 8y + 4)" (02, M-100)
 abbrev pub sampleOffset : ℕ
-sampleOffset = 0
+sampleOffset = 4
 
 unfoldable pub sample : ℕ → ℕ → Point
-sample x y = record { px = pos (8 * x + sampleOffset); py = pos (8 * y + sampleOffset) }
+sample x y = pointIn sampleOffset x y
 
 -- "the directed edge from (x1, y1) to (x2, y2)"
 pub record Edge : Type 0 where
@@ -106,9 +110,12 @@ doubledArea v = (v .x2 -ℤ v .x1) *ℤ (v .y3 -ℤ v .y1) -ℤ (v .x3 -ℤ v .x
 abbrev pub onScreen : Screen → ℕ → ℕ → Bool
 onScreen s x y = ltb x (width (s .size)) && ltb y (height (s .size))
 
--- "It is covered if it is on the screen and inside all three edges"
+-- "It is covered if it is on the screen and inside all three edges", judged at the point that `at` gives of each pixel
+abbrev pub coveredBy : (ℕ → ℕ → Point) → Triangle → Screen → ℕ → ℕ → Bool
+coveredBy at t s x y = onScreen s x y && insideAll (t .vertices) (at x y)
+
 unfoldable pub covered : Triangle → Screen → ℕ → ℕ → Bool
-covered t s x y = onScreen s x y && insideAll (t .vertices) (sample x y)
+covered t s x y = coveredBy sample t s x y
 
 -- "A covered pixel is written, colour and depth, if its depth is at most the stored depth."
 unfoldable pub written : Triangle → Screen → List ℕ → ℕ → ℕ → Bool

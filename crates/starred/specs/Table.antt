@@ -1,4 +1,5 @@
--- 01, "Both sides of each edge": the cases marked *, all of them, in its order. Each has what 01 says and what the definitions give.
+-- 01, "Both sides of each edge": the cases marked *, all of them, in its order, the pair as 02 has it now. Each has what the document says
+-- and what the definitions give.
 use mathlib.Core.List.{List, [], _∷_}
 use lib.IntN.{ℤ, pos}
 use Rattle.instructions.specs.Opcodes.{LI, SUB, MULF, RECP, ASR, DOT}
@@ -14,9 +15,9 @@ case says gives = record { says = says; gives = gives }
 
 unfoldable pub starred : List Case
 starred =
-    -- "(0,0), (32,0), (0,32) covers 10; (32,32), (0,32), (32,0) covers 6; no pixel in common"
-    case (pos 10) (covers (corners 0 0 32 0 0 32))
-    ∷ case (pos 6) (covers (corners 32 32 0 32 32 0))
+    -- "(0,0), (32,0), (0,32) .. (32,32), (0,32), (32,0) .. no pixel in common"; 02, M-100: "The starred pair .. now covers 6 and 10."
+    case (pos 6) (covers (corners 0 0 32 0 0 32))
+    ∷ case (pos 10) (covers (corners 32 32 0 32 32 0))
     ∷ case (pos 0) (bothCover (corners 0 0 32 0 0 32) (corners 32 32 0 32 32 0))
     -- "(0,0), (0,32), (32,0) covers 0." "Three equal vertices cover 0."
     ∷ case (pos 0) (covers (corners 0 0 0 32 32 0))

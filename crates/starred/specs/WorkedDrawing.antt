@@ -1,5 +1,6 @@
--- Triangles worked out by hand from 01, one of each kind, on the starred cases' screen of 16 by 4: pixel (x, y) is sampled at (8x, 8y).
--- A row is one number, its first pixel highest, so that a hexadecimal digit has four pixels: 0xF000 is the first four.
+-- Triangles worked out by hand from 01, one of each kind, on the starred cases' screen of 16 by 4: pixel (x, y) is sampled at
+-- (8x + 4, 8y + 4), as 02's M-100 has it. A row is one number, its first pixel highest, so that a hexadecimal digit has four pixels:
+-- 0xF000 is the first four.
 use Prim.Native.Nat.{ℕ, _+_, _*_}
 use mathlib.Core.Bool.{Bool}
 use mathlib.Core.List.{List, [], _∷_}
@@ -61,7 +62,7 @@ plane n a b = record { c = pos (n * 65536); a = pos (a * 65536); b = pos (b * 65
 abbrev pub flat : ℕ → Plane
 flat n = plane n 0 0
 
--- the first starred triangle, which covers 4, 3, 2 and 1 pixels of the rows: at a depth, in blue 1
+-- the first starred triangle, which covers 3, 2, 1 and no pixels of the rows: at a depth, in blue 1
 abbrev pub blueAt : ℕ → Triangle
 blueAt depth = triangle (pos 0) (pos 0) (pos 32) (pos 0) (pos 0) (pos 32) (flat depth) (flat 0) (flat 0) (flat 1)
 
@@ -76,31 +77,34 @@ rowAt y =
 
 unfoldable pub workedDrawings : List Case
 workedDrawings =
-    -- to the right, down to the left and up: 8 pixels, and two fewer in each row below; turned the other way: none
-    case (0xFF00 ∷ 0xFC00 ∷ 0xF000 ∷ 0xC000 ∷ []) (shape (corners 0 0 64 0 0 32))
+    -- to the right, down to the left and up: 7 pixels, and two fewer in each row below; turned the other way: none
+    case (0xFE00 ∷ 0xF800 ∷ 0xE000 ∷ 0x8000 ∷ []) (shape (corners 0 0 64 0 0 32))
     ∷ case (0 ∷ 0 ∷ 0 ∷ 0 ∷ []) (shape (corners 0 0 0 32 64 0))
     -- no area: three vertices on one line, which goes through the sample points of (0, 0), (2, 1), (4, 2), (6, 3)
-    ∷ case (0 ∷ 0 ∷ 0 ∷ 0 ∷ []) (shape (corners 0 0 64 32 32 16))
-    -- a level edge on top, in row 1: its pixels are in; at the bottom, in row 3: they are out
-    ∷ case (0 ∷ 0xFF00 ∷ 0xF000 ∷ 0 ∷ []) (shape (corners 0 8 64 8 0 24))
-    ∷ case (0 ∷ 0 ∷ 0xF000 ∷ 0 ∷ []) (shape (corners 0 8 64 24 0 24))
+    ∷ case (0 ∷ 0 ∷ 0 ∷ 0 ∷ []) (shape (corners 4 4 68 36 36 20))
+    -- a level edge on top, through row 1's sample points: its pixels are in; at the bottom, through row 3's: they are out
+    ∷ case (0 ∷ 0xFF00 ∷ 0xF000 ∷ 0 ∷ []) (shape (corners 4 12 68 12 4 28))
+    ∷ case (0 ∷ 0 ∷ 0xF000 ∷ 0 ∷ []) (shape (corners 4 12 68 28 4 28))
+    -- from side to side of whole pixels: half of columns 1 and 2 and rows 1 and 2, by the diagonal; the other half
+    ∷ case (0 ∷ 0x4000 ∷ 0 ∷ 0 ∷ []) (shape (corners 8 8 24 8 8 24))
+    ∷ case (0 ∷ 0x2000 ∷ 0x6000 ∷ 0 ∷ []) (shape (corners 24 24 8 24 24 8))
     -- a vertex on the sample point of (1, 1), the only one near: in where a level top edge meets a rising one; else out
-    ∷ case (0 ∷ 0x4000 ∷ 0 ∷ 0 ∷ []) (shape (corners 8 8 15 8 9 15))
-    ∷ case (0 ∷ 0 ∷ 0 ∷ 0 ∷ []) (shape (corners 8 8 15 9 8 15))
+    ∷ case (0 ∷ 0x4000 ∷ 0 ∷ 0 ∷ []) (shape (corners 12 12 19 12 13 19))
+    ∷ case (0 ∷ 0 ∷ 0 ∷ 0 ∷ []) (shape (corners 12 12 19 13 12 19))
     -- an edge through the sample points of (0, 0), (1, 1), (2, 2), (3, 3): in where it runs up, out where it runs down
     ∷ case (0xF000 ∷ 0x7000 ∷ 0x3000 ∷ 0x1000 ∷ []) (shape (corners 0 0 32 0 32 32))
     ∷ case (0 ∷ 0x8000 ∷ 0xC000 ∷ 0xE000 ∷ []) (shape (corners 0 0 32 32 0 32))
     -- partly off the screen: to the left and above; to the right and below
-    ∷ case (0xC000 ∷ 0x8000 ∷ 0 ∷ 0 ∷ []) (shape (vertices (minus 16) (minus 16) (pos 32) (minus 16) (minus 16) (pos 32)))
+    ∷ case (0x8000 ∷ 0 ∷ 0 ∷ 0 ∷ []) (shape (vertices (minus 16) (minus 16) (pos 32) (minus 16) (minus 16) (pos 32)))
     ∷ case (0 ∷ 0 ∷ 0x0003 ∷ 0x0003 ∷ []) (shape (corners 112 16 144 16 112 48))
-    -- at depth 5 the first pixel is hidden by its 4; the second, whose depth is equal, is written, and so are the other eight
-    ∷ case (0 ∷ 10 ∷ 9 ∷ []) (counts (blueAt 5))
-    ∷ case (65535 ∷ 1 ∷ 1 ∷ 1 ∷ 65535 ∷ []) (colours (blueAt 5) 0)
-    ∷ case (4 ∷ 5 ∷ 5 ∷ 5 ∷ 65535 ∷ []) (depths (blueAt 5) 0)
+    -- at depth 5 the first pixel is hidden by its 4; the second, whose depth is equal, is written, and so are the other four
+    ∷ case (0 ∷ 6 ∷ 5 ∷ []) (counts (blueAt 5))
+    ∷ case (65535 ∷ 1 ∷ 1 ∷ 65535 ∷ 65535 ∷ []) (colours (blueAt 5) 0)
+    ∷ case (4 ∷ 5 ∷ 5 ∷ 65535 ∷ 65535 ∷ []) (depths (blueAt 5) 0)
     -- depths are unsigned: 65535 is hidden by 4 and by 5
-    ∷ case (0 ∷ 10 ∷ 8 ∷ []) (counts (blueAt 65535))
-    -- in row 1: red 0, 2, 4; green 4; blue 1, the low five bits of 33
-    ∷ case (129 ∷ 4225 ∷ 8321 ∷ 65535 ∷ 65535 ∷ []) (colours shaded 1)
+    ∷ case (0 ∷ 6 ∷ 4 ∷ []) (counts (blueAt 65535))
+    -- in row 1: red 0 and 2; green 4; blue 1, the low five bits of 33. Planes count from pixel (0, 0), whatever the sample point
+    ∷ case (129 ∷ 4225 ∷ 65535 ∷ 65535 ∷ 65535 ∷ []) (colours shaded 1)
     -- "Vertex 8191 passes, 8192 gives 6. S = 20960 is 640 by 480."
     ∷ case (0 ∷ 64 ∷ 64 ∷ []) (counts (corners 0 0 8191 0 0 8191))
     ∷ case (6 ∷ 0 ∷ 0 ∷ []) (counts (corners 0 0 8191 0 0 8192))

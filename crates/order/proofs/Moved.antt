@@ -1,0 +1,130 @@
+-- The point and all vertices moved by the same amount change nothing: an edge's value and both its steps are differences, and these stay.
+-- So a triangle moved half a pixel to the right and down covers, sampled at (8x + 4, 8y + 4), what it covered sampled at (8x, 8y); and one
+-- moved by whole pixels covers the pixels so much further.
+use Prim.Native.Nat.{ℕ, _+_, _*_}
+use mathlib.Core.Path.{_≡_, refl, sym, _∙_, ap, subst}
+use mathlib.Core.Bool.{Bool, true, _&&_}
+use mathlib.Core.List.{List, [], _∷_}
+use native.Mathlib.Omega.{arith}
+use lib.Dec.{leb, ltb}
+use lib.ListN.{length}
+use lib.IntN.{ℤ, pos, _+ℤ_, _-ℤ_}
+use borrow.Author.Tests.{ltb-true, lt-ltb}
+use Rattle.ints.proofs.Poly.{var, _⊕_, _⊖_, _⊗_, solve}
+use Rattle.ram.specs.Ram.{loadHalf}
+use Rattle.rules.specs.declared.Screen.{Screen}
+use Rattle.rules.specs.declared.Vertices.{Vertices}
+use Rattle.rules.specs.declared.Triangle.{Triangle}
+use Rattle.rules.specs.Folds.{pixels}
+use Rattle.rules.specs.Sizes.{width, height, sound, depthAt}
+use Rattle.rules.specs.Triangles.{Point, Edge, edgeValue, inside, insideAll, pointIn, sampleOffset, sample, onScreen, coveredBy, covered, coveredPixels}
+use Rattle.rules.specs.Triangles.{triangleDepth, triangleColour, trianglePixel, written, writtenPixels, drawn, edge1, edge2, edge3}
+use Rattle.rules.proofs.Choices.{and-true}
+use Rattle.rules.proofs.Folds.{pixels-same}
+use Rattle.order.specs.Pointwise.{Painted}
+use Rattle.order.specs.Moved.{movedPoint, movedEdge, movedVertices, moved, writtenBy}
+use Rattle.order.proofs.Sides.{within, inside-is}
+use Rattle.order.proofs.Pointwise.{drawn-pointwise}
+
+-- the point and the vertices moved alike
+
+module _ (right down : ℤ) where
+  moved-value : (e : Edge) (p : Point) → edgeValue (movedEdge right down e) (movedPoint right down p) ≡ edgeValue e p
+  unfolding edgeValue
+  moved-value e p =
+      solve (e .x1 ∷ e .y1 ∷ e .x2 ∷ e .y2 ∷ p .px ∷ p .py ∷ right ∷ down ∷ [])
+      ((var 5 ⊕ var 7 ⊖ (var 1 ⊕ var 7)) ⊗ (var 2 ⊕ var 6 ⊖ (var 0 ⊕ var 6))
+      ⊖ (var 4 ⊕ var 6 ⊖ (var 0 ⊕ var 6)) ⊗ (var 3 ⊕ var 7 ⊖ (var 1 ⊕ var 7)))
+      ((var 5 ⊖ var 1) ⊗ (var 2 ⊖ var 0) ⊖ (var 4 ⊖ var 0) ⊗ (var 3 ⊖ var 1))
+      tt
+
+  pub moved-inside : (e : Edge) (p : Point) → inside (movedEdge right down e) (movedPoint right down p) ≡ inside e p
+  moved-inside e p =
+      inside-is (movedEdge right down e) (movedPoint right down p)
+      ∙ alike (moved-value e p) (step (e .x2) (e .x1) right) (step (e .y2) (e .y1) down)
+      ∙ sym (inside-is e p)
+    where
+      step : (a b r : ℤ) → (a +ℤ r) -ℤ (b +ℤ r) ≡ a -ℤ b
+      step a b r = solve (a ∷ b ∷ r ∷ []) (var 0 ⊕ var 2 ⊖ (var 1 ⊕ var 2)) (var 0 ⊖ var 1) tt
+
+      alike : {v v′ u u′ w w′ : ℤ} → v ≡ v′ → u ≡ u′ → w ≡ w′ → within v u w ≡ within v′ u′ w′
+      alike p q r = rw (p, q, r)
+
+  pub moved-inside-all : (v : Vertices) (p : Point) → insideAll (movedVertices right down v) (movedPoint right down p) ≡ insideAll v p
+  unfolding insideAll
+  moved-inside-all v p = rw (moved-inside (edge1 v) p, moved-inside (edge2 v) p, moved-inside (edge3 v) p)
+
+-- half a pixel, and any other offset
+
+further : (o d x y : ℕ) → pointIn (o + d) x y ≡ movedPoint (pos d) (pos d) (pointIn o x y)
+further o d x y = λ i. record { px = pos (sum x i); py = pos (sum y i) }
+  where
+    sum : (n : ℕ) → 8 * n + (o + d) ≡ 8 * n + o + d
+    sum n = omega arith
+
+module _ (t : Triangle) (s : Screen) (x y : ℕ) where
+  pub offset-moved : (o d : ℕ) → coveredBy (pointIn (o + d)) (moved (pos d) (pos d) t) s x y ≡ coveredBy (pointIn o) t s x y
+  offset-moved o d =
+      ap (λ (b : Bool). onScreen s x y && b)
+      (ap (insideAll (movedVertices (pos d) (pos d) (t .vertices))) (further o d x y)
+      ∙ moved-inside-all (pos d) (pos d) (t .vertices) (pointIn o x y))
+
+  -- the sample point as it is, and as it was
+  pub half-pixel : covered (moved (pos 4) (pos 4) t) s x y ≡ coveredBy (pointIn 0) t s x y
+  unfolding covered sample
+  half-pixel = offset-moved 0 4
+
+-- what the planes give at a pixel does not move
+pub moved-pixel : (right down : ℤ) (t : Triangle) (x y : ℕ) → trianglePixel (moved right down t) x y ≡ trianglePixel t x y
+unfolding triangleColour triangleDepth
+moved-pixel right down t x y = refl
+
+module _ (t : Triangle) (s : Screen) (m : List ℕ) where
+  half-pixel-written : (x y : ℕ) → written (moved (pos 4) (pos 4) t) s m x y ≡ writtenBy (pointIn 0) t s m x y
+  unfolding written triangleDepth
+  half-pixel-written x y = ap (λ (b : Bool). b && leb (triangleDepth t x y) (loadHalf m (depthAt s x y))) (half-pixel t s x y)
+
+  pub half-pixel-counts :
+      (coveredPixels (moved (pos 4) (pos 4) t) s ≡ pixels (coveredBy (pointIn 0) t s) (width (s .size)) (height (s .size)))
+      × (writtenPixels (moved (pos 4) (pos 4) t) s m ≡ pixels (writtenBy (pointIn 0) t s m) (width (s .size)) (height (s .size)))
+  half-pixel-counts = (
+    pixels-same _ _ _ _ (λ x y a b. half-pixel t s x y),
+    pixels-same _ _ _ _ (λ x y a b. half-pixel-written x y),
+  )
+
+  pub half-pixel-paints : sound (length m) s ≡ true
+      → Painted s (writtenBy (pointIn 0) t s m) (trianglePixel t) m (drawn (moved (pos 4) (pos 4) t) s m)
+  unfolding triangleColour triangleDepth
+  half-pixel-paints h =
+      subst (λ (picked : ℕ → ℕ → Bool). Painted s picked (trianglePixel t) m (drawn (moved (pos 4) (pos 4) t) s m))
+      (λ i x y. half-pixel-written x y i)
+      (drawn-pointwise s m h (moved (pos 4) (pos 4) t))
+
+-- whole pixels
+
+on : (o i j x y : ℕ) → pointIn o (x + i) (y + j) ≡ movedPoint (pos (8 * i)) (pos (8 * j)) (pointIn o x y)
+on o i j x y = λ k. record { px = pos (sum x i k); py = pos (sum y j k) }
+  where
+    sum : (n k : ℕ) → 8 * (n + k) + o ≡ 8 * n + o + 8 * k
+    sum n k = omega arith
+
+module _ (i j x y : ℕ) where
+  pub whole-pixels-inside : (o : ℕ) (v : Vertices)
+      → insideAll (movedVertices (pos (8 * i)) (pos (8 * j)) v) (pointIn o (x + i) (y + j)) ≡ insideAll v (pointIn o x y)
+  whole-pixels-inside o v =
+      ap (insideAll (movedVertices (pos (8 * i)) (pos (8 * j)) v)) (on o i j x y)
+      ∙ moved-inside-all (pos (8 * i)) (pos (8 * j)) v (pointIn o x y)
+
+  module _ (t : Triangle) (s : Screen) where
+    nearer : onScreen s (x + i) (y + j) ≡ true → onScreen s x y ≡ true
+    nearer h =
+        let (a, b) = and-true {a = ltb (x + i) (width (s .size))} h in
+        rw (less x i (width (s .size)) a, less y j (height (s .size)) b)
+      where
+        less : (n k limit : ℕ) → ltb (n + k) limit ≡ true → ltb n limit ≡ true
+        less n k limit e = lt-ltb n limit (omega (arith, ltb-true (n + k) limit e))
+
+    pub whole-pixels : onScreen s (x + i) (y + j) ≡ true
+        → covered (moved (pos (8 * i)) (pos (8 * j)) t) s (x + i) (y + j) ≡ covered t s x y
+    unfolding covered sample
+    whole-pixels h = rw (h, nearer h) (whole-pixels-inside sampleOffset (t .vertices))
