@@ -2,7 +2,7 @@
 -- So a triangle moved half a pixel to the right and down covers, sampled at (8x + 4, 8y + 4), what it covered sampled at (8x, 8y); and one
 -- moved by whole pixels covers the pixels so much further.
 use Prim.Native.Nat.{ℕ, _+_, _*_}
-use mathlib.Core.Path.{_≡_, refl, sym, _∙_, ap, subst}
+use mathlib.Core.Path.{_≡_, refl, sym, _∙_, ap, ap₂, subst}
 use mathlib.Core.Bool.{Bool, true, _&&_}
 use mathlib.Core.List.{List, [], _∷_}
 use native.Mathlib.Omega.{arith}
@@ -52,7 +52,7 @@ module _ (right down : ℤ) where
 
   pub moved-inside-all : (v : Vertices) (p : Point) → insideAll (movedVertices right down v) (movedPoint right down p) ≡ insideAll v p
   unfolding insideAll
-  moved-inside-all v p = rw (moved-inside (edge1 v) p, moved-inside (edge2 v) p, moved-inside (edge3 v) p)
+  moved-inside-all v p = ap₂ _&&_ (ap₂ _&&_ (moved-inside (edge1 v) p) (moved-inside (edge2 v) p)) (moved-inside (edge3 v) p)
 
 -- half a pixel, and any other offset
 
