@@ -236,13 +236,13 @@ MERIKOHIN_MUST_USE
 uint32_t merikohin_clear(uint8_t *ram, size_t ram_len, merikohin_screen s, uint16_t colour, uint16_t depth);
 
 /* Draws a triangle: a pixel (x, y) of the screen is covered if the point
- * (8x, 8y) is inside all three edges, taken in the vertices' order, and a
- * covered pixel is written, colour and depth, if its depth is at most the
- * stored depth; all other bytes of RAM stay as they were. Answers 0 with the
- * numbers of pixels covered and written, or 3 (RAM too long), 5 (screen not
- * sound), 6 (vertex number out of range) or 7 (edge value out of range) with
- * counts of 0. A triangle turned the other way, or of no area, is accepted and
- * covers none. */
+ * (8x + 4, 8y + 4), its centre, is inside all three edges, taken in the
+ * vertices' order, and a covered pixel is written, colour and depth, if its
+ * depth is at most the stored depth; all other bytes of RAM stay as they were.
+ * Answers 0 with the numbers of pixels covered and written, or 3 (RAM too
+ * long), 5 (screen not sound), 6 (vertex number out of range) or 7 (edge value
+ * out of range) with counts of 0. A triangle turned the other way, or of no
+ * area, is accepted and covers none. */
 MERIKOHIN_MUST_USE
 merikohin_drawn merikohin_draw(uint8_t *ram, size_t ram_len, merikohin_screen s, merikohin_triangle t);
 

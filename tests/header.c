@@ -1,6 +1,6 @@
 /* What merikohin.h says and the library does, by C11 and by C++: constants, size
- * numbers, sentences, NULL with length 0, any address, fields without meaning,
- * single steps.
+ * numbers, sentences, NULL with length 0, any address, the sample point, fields
+ * without meaning, single steps.
  * The status is 0 where all holds; else each line that failed is printed.
  */
 #include "merikohin.h"
@@ -89,6 +89,33 @@ static void any_address(void)
     HOLDS(merikohin_depth_row(ram, 256, s, 4).number == MERIKOHIN_ROW_OUT_OF_RANGE);
 }
 
+static merikohin_drawn drawn(uint8_t *ram, int32_t x1, int32_t y1, int32_t x2, int32_t y2, int32_t x3, int32_t y3)
+{
+    merikohin_triangle t;
+    memset(&t, 0, sizeof t);
+    t.vertices.x1 = x1, t.vertices.y1 = y1, t.vertices.x2 = x2, t.vertices.y2 = y2, t.vertices.x3 = x3, t.vertices.y3 = y3;
+    t.blue.c = 1 << 16;
+    return merikohin_draw(ram, 256, screen_of(0, 128, MERIKOHIN_SIZE(16, 4)), t);
+}
+
+/* Of triangles an eighth of a pixel large, each with its upper left corner at one point of the screen, those at a point
+ * (8x + 4, 8y + 4) cover pixel (x, y) and the others none. The pair that shares an edge covers 6 and 10. */
+static void sampled_at_the_centre(void)
+{
+    static uint8_t ram[256];
+    for (int32_t y = 0; y < 8 * 4; y++) {
+        for (int32_t x = 0; x < 8 * 16; x++) {
+            memset(ram, 0, sizeof ram);
+            const int centre = x % 8 == 4 && y % 8 == 4;
+            const merikohin_drawn small = drawn(ram, x, y, x + 1, y, x, y + 1);
+            HOLDS(small.number == MERIKOHIN_DONE && small.covered == (centre ? 1u : 0u) && small.written == small.covered);
+            HOLDS(ram[2 * (16 * (y / 8) + x / 8) + 1] == centre);
+        }
+    }
+    HOLDS(drawn(ram, 0, 0, 32, 0, 0, 32).covered == 6);
+    HOLDS(drawn(ram, 32, 32, 0, 32, 32, 0).covered == 10);
+}
+
 /* A fresh state has 0 in every field; a run leaves what was there in those that mean nothing,
  * but for yes and no, which become 1 and 0. */
 static void without_meaning(void)
@@ -145,6 +172,7 @@ int main(void)
     sentences(merikohin_halt_says, halts, 8);
     nothing_lent();
     any_address();
+    sampled_at_the_centre();
     without_meaning();
     steps();
     return failed;

@@ -31,9 +31,10 @@ int main(void)
     if (number != MERIKOHIN_DONE)
         return refused(number);
 
-    /* Vertices are in eighths of a pixel: 32 is four pixels. A plane has
-     * c + a*x + b*y at pixel (x, y), and blue is its bits 16 to 20. Planes
-     * that are left out are 0 everywhere: no red, no green, nearest depth. */
+    /* Vertices are in eighths of a pixel: 32 is four pixels. A triangle covers
+     * the pixels whose centre is inside it. A plane has c + a*x + b*y at pixel
+     * (x, y), and blue is its bits 16 to 20. Planes that are left out are 0
+     * everywhere: no red, no green, nearest depth. */
     const merikohin_triangle pair[2] = {
         {.vertices = {.x1 = 0, .y1 = 0, .x2 = 32, .y2 = 0, .x3 = 0, .y3 = 32}, .blue = {.c = 1 << 16}},
         {.vertices = {.x1 = 32, .y1 = 32, .x2 = 0, .y2 = 32, .x3 = 32, .y3 = 0}, .blue = {.c = 2 << 16}},

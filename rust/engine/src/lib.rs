@@ -20,8 +20,8 @@
 //!     ..Triangle::default()
 //! };
 //! let drawn = merikohin::draw(&mut ram, screen, triangle)?;
-//! assert_eq!((drawn.covered, drawn.written), (10, 10));
-//! assert_eq!(merikohin::row(&ram, screen, 3)?[..4], [0, 1, 0, 0]);
+//! assert_eq!((drawn.covered, drawn.written), (6, 6));
+//! assert_eq!(merikohin::row(&ram, screen, 2)?[..4], [0, 1, 0, 0]);
 //! # Ok(())
 //! # }
 //! ```
@@ -97,9 +97,9 @@ pub fn clear(ram: &mut [u8], screen: Screen, colour: u16, depth: u16) -> Result<
     done(raw::clear(ram, screen, colour, depth))
 }
 
-/// Draws a triangle: each pixel (x, y) whose point (8x, 8y) is inside all three
-/// edges is covered, and written where its depth is at most the stored one.
-/// Refuses with 3, 5, 6 and 7.
+/// Draws a triangle: each pixel (x, y) whose point (8x + 4, 8y + 4), its centre,
+/// is inside all three edges is covered, and written where its depth is at most
+/// the stored one. Refuses with 3, 5, 6 and 7.
 ///
 /// ```
 /// use merikohin::{draw, Refusal, Screen, Triangle};

@@ -18,9 +18,10 @@ fn main() -> Result<(), Refusal> {
     // answers why, and changes nothing.
     merikohin::clear(&mut ram, screen, 0, 65535)?;
 
-    // Vertices are in eighths of a pixel: 32 is four pixels. A plane has
-    // c + a·x + b·y at pixel (x, y), and blue is its bits 16 to 20. Planes left
-    // out are 0 everywhere: no red, no green, nearest depth.
+    // Vertices are in eighths of a pixel: 32 is four pixels. A triangle covers
+    // the pixels whose centre is inside it. A plane has c + a·x + b·y at pixel
+    // (x, y), and blue is its bits 16 to 20. Planes left out are 0 everywhere:
+    // no red, no green, nearest depth.
     for (blue, vertices) in [(1, [0, 0, 32, 0, 0, 32]), (2, [32, 32, 0, 32, 32, 0])] {
         let blue = Plane { c: blue << 16, a: 0, b: 0 };
         let drawn =
