@@ -50,7 +50,7 @@ triangle how many pixels it covered and wrote. -o: writes the screen (.png, .ppm
         "merikohin why SCENE X Y",
         "Tells for each triangle of a scene whether it covers the pixel (X, Y), its depth against the stored one,
 and whether it was written. Status 0 where a triangle wrote the pixel, 1 where none did.",
-        "merikohin why examples/scenes/pair.txt 3 1",
+        "merikohin why examples/scenes/pair.txt 2 1",
     ),
     (
         "explain",

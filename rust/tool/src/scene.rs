@@ -235,7 +235,7 @@ mod tests {
         let mut ram = scene.ram();
         let drawn: Vec<_> =
             scene.items.iter().map(|(line, item)| scene.draw(&mut ram, *line, *item).unwrap()).collect();
-        assert_eq!(drawn, [None, Some(merikohin::Drawn { covered: 10, written: 10 })]);
+        assert_eq!(drawn, [None, Some(merikohin::Drawn { covered: 6, written: 6 })]);
         let outside = Triangle { vertices: [0, 0, 0, 0, 0, 8192].into(), ..Triangle::default() };
         let problem = scene.draw(&mut ram, 9, Item::Triangle(outside)).unwrap_err();
         assert_eq!(problem.to_string(), "6: a vertex number is outside -8192..8191: y3 = 8192 (s, line 9)");

@@ -8,8 +8,8 @@ use crate::scene::{Item, Scene};
 use kit::pixels::halves;
 use merikohin::{Plane, Refusal, Screen, Triangle};
 
-/// A pixel is sampled at the point (8x, 8y).
-const SAMPLE_OFFSET: i64 = 0;
+/// A pixel is sampled at the point (8x + 4, 8y + 4), its centre.
+const SAMPLE_OFFSET: i32 = 4;
 
 /// Whether a triangle wrote the pixel.
 pub fn why(scene: &Scene, x: u32, y: u32) -> Result<bool, Problem> {
@@ -117,7 +117,7 @@ impl Edge {
 /// The three edge values at the pixel's sample point, and on which side each is.
 fn edges(triangle: &Triangle, x: u32, y: u32) -> [Edge; 3] {
     let [x1, y1, x2, y2, x3, y3] = triangle.vertices.numbers().map(i64::from);
-    let (px, py) = (8 * i64::from(x) + SAMPLE_OFFSET, 8 * i64::from(y) + SAMPLE_OFFSET);
+    let [px, py] = [x, y].map(|place| 8 * i64::from(place) + i64::from(SAMPLE_OFFSET));
     [(x1, y1, x2, y2), (x2, y2, x3, y3), (x3, y3, x1, y1)].map(|(x1, y1, x2, y2)| {
         let (dx, dy) = (x2 - x1, y2 - y1);
         let value = (py - y1) * dx - (px - x1) * dy;
@@ -131,14 +131,16 @@ mod tests {
     use kit::rng::Rng;
 
     /// The edge values that are told and the engine's coverage agree, and so do
-    /// depth and fate.
+    /// depth and fate; also where a sample point is on an edge.
     #[test]
     fn told_as_the_engine_has_it() {
         let mut rng = Rng::new(3);
         let screen = Screen::new(0, 1024, 32, 16);
+        let mut ties = 0;
         for turn in 0..3000 {
+            // Every other triangle has its vertices on sample points.
             let step = if turn % 2 == 0 { 8 } else { 1 };
-            let mut v = [0; 6].map(|_: i32| rng.between(-40, 300) as i32 / step * step);
+            let mut v = [0; 6].map(|_: i32| rng.between(-40, 300) as i32 / step * step + SAMPLE_OFFSET);
             // Upright and level edges, and pixels in the first vertex's row, where such an edge is 0.
             match turn % 5 {
                 0 => v[2] = v[0],
@@ -150,10 +152,13 @@ mod tests {
             let mut ram = vec![0; 2048];
             let (was, stored) = (rng.next() as u16, rng.between(0, 4) as u16);
             merikohin::clear(&mut ram, screen, was, stored).unwrap();
-            let row = if turn % 2 == 0 { i64::from(v[1] / 8).clamp(0, 15) } else { rng.between(0, 15) };
+            let first = i64::from((v[1] - SAMPLE_OFFSET) / 8);
+            let row = if turn % 2 == 0 { first.clamp(0, 15) } else { rng.between(0, 15) };
             let (x, y) = (rng.between(0, 31) as u32, row as u32);
             let answer = ask(screen, &ram, &triangle, x, y);
-            assert_eq!(answer.is_some(), edges(&triangle, x, y).iter().all(|edge| edge.inside), "{triangle:?}");
+            let edges = edges(&triangle, x, y);
+            assert_eq!(answer.is_some(), edges.iter().all(|edge| edge.inside), "{triangle:?}");
+            ties += edges.iter().filter(|edge| edge.value == 0).count();
             merikohin::draw(&mut ram, screen, triangle).unwrap();
             let now = pixel(&ram, screen, x, y);
             match answer {
@@ -164,5 +169,6 @@ mod tests {
                 assert_eq!(answer.written, answer.depth <= answer.stored);
             }
         }
+        assert!(ties > 250, "{ties}");
     }
 }

@@ -254,7 +254,7 @@ fn outputs() {
     let all = ["png", "ppm", "txt", "ram"].map(|suffix| {
         let path = file(&format!("pair.{suffix}"));
         let out = done(&["draw", "examples/scenes/pair.txt", "-o", &path]);
-        assert_eq!(out, "line 4: covered 10, written 10\nline 5: covered 6, written 6\n");
+        assert_eq!(out, "line 4: covered 6, written 6\nline 5: covered 10, written 10\n");
         fs::read(path).unwrap()
     });
     let (width, height, pixels) = png::decode(&all[0]).unwrap();
@@ -286,15 +286,15 @@ triangle 0 0 32 0 0 32 blue 2.0 0 0 depth 6.0 0 0\ntriangle 32 32 0 32 32 0 red 
     assert_eq!(
         done(&["why", &path, "1", "0"]),
         "line 2: clear: colour 0000, depth 65535
-line 3: triangle: covers it (edge values 0, 768, 256); depth 5, stored 65535: written, colour 0001
-line 4: triangle: covers it (edge values 0, 768, 256); depth 6, stored 5: hidden, not written
-line 5: triangle: does not cover it (edge values 1024, -768, 768): edge 2 is -768
+line 3: triangle: covers it (edge values 128, 512, 384); depth 5, stored 65535: written, colour 0001
+line 4: triangle: covers it (edge values 128, 512, 384); depth 6, stored 5: hidden, not written
+line 5: triangle: does not cover it (edge values 896, -512, 640): edge 2 is -512
 now: colour 0001, depth 5\n"
     );
-    let shared = done(&["why", &path, "2", "2"]);
+    let shared = done(&["why", &path, "2", "1"]);
     assert!(shared
-        .contains("line 3: triangle: does not cover it (edge values 512, 0, 512): edge 2 is 0, and zero is outside"));
-    assert!(shared.contains("line 5: triangle: covers it"), "{shared}");
+        .contains("line 3: triangle: does not cover it (edge values 384, 0, 640): edge 2 is 0, and zero is outside"));
+    assert!(shared.contains("line 5: triangle: covers it (edge values 640, 0, 384)"), "{shared}");
     let outside = merikohin(&["why", &path, "9", "3"]);
     assert_eq!((outside.status, outside.err.as_str()), (1, ""));
     assert!(outside.out.ends_with("now: colour 0000, depth 65535\n"));
