@@ -5,6 +5,11 @@
 ; loop of the paper. It leaves exactly the bytes that examples/scenes/raster.txt
 ; gives with `merikohin draw`.
 
+; Where in its pixel an edge is sampled, in eighths to the right and down: in
+; the middle. Pixel (0, 0)'s sample point is (4, 4). Planes count from pixel
+; (0, 0) itself.
+        .equ    sample, 4
+
 ; Data memory: the vertices, x1 y1 x2 y2 x3 y3 x1 y1; what a row down adds to
 ; depth, red, green and blue and to the three edges.
         .equ    vertices, 0
@@ -150,9 +155,11 @@ edge:
         LD      R22, R28(3)
         LD      R27, R28(1)
         SUB     R22, R22, R27           ; dy = y2 - y1
+        LI      R23, R23(-sample)       ; x1 and y1, counted from pixel (0, 0)'s
+        LI      R27, R27(-sample)       ; sample point
         MUL     R23, R23, R22           ; x1 dy
         MUL     R27, R27, R21           ; y1 dx
-        SUB     R26, R23, R27           ; the value at (0, 0): x1 dy - y1 dx
+        SUB     R26, R23, R27           ; the value there: x1 dy - y1 dx
         LSLI    R25, R21, 3             ; B = 8 dx
         LSLI    R24, R22, 3
         SUB     R24, R0, R24            ; A = -8 dy
