@@ -5,6 +5,7 @@
  * need be known; "stepped" keeps them up by addition, in 32 bits. They differ
  * in nothing else. */
 #include "baseline.h"
+#include "sample.h"
 
 static int out_of_range(int32_t v)
 {
@@ -21,8 +22,25 @@ static int32_t most(int32_t a, int32_t b)
     return a > b ? a : b;
 }
 
-/* First and last pixel to be tested in each direction, and the screen's width.
- * The shifts round down. */
+/* The sample point of a column or a row, in eighths. */
+static int32_t sample(int32_t place)
+{
+    return 8 * place + SAMPLE_OFFSET;
+}
+
+/* The first column or row whose sample point is not before this eighth, and the
+ * last whose is not beyond it. The shifts round down. */
+static int32_t first_from(int32_t eighth)
+{
+    return (eighth - SAMPLE_OFFSET + 7) >> 3;
+}
+
+static int32_t last_up_to(int32_t eighth)
+{
+    return (eighth - SAMPLE_OFFSET) >> 3;
+}
+
+/* First and last pixel to be tested in each direction, and the screen's width. */
 struct box {
     int32_t left, right, top, bottom, width;
 };
@@ -38,10 +56,10 @@ static uint32_t look(size_t ram_len, merikohin_screen s, const merikohin_vertice
         out_of_range(v->x3) || out_of_range(v->y3))
         return 6;
     box->width = (int32_t)(s.size_number / 512) * 16;
-    box->left = most(0, (least(v->x1, least(v->x2, v->x3)) + 7) >> 3);
-    box->right = least(box->width - 1, most(v->x1, most(v->x2, v->x3)) >> 3);
-    box->top = most(0, (least(v->y1, least(v->y2, v->y3)) + 7) >> 3);
-    box->bottom = least((int32_t)(s.size_number % 512) - 1, most(v->y1, most(v->y2, v->y3)) >> 3);
+    box->left = most(0, first_from(least(v->x1, least(v->x2, v->x3))));
+    box->right = least(box->width - 1, last_up_to(most(v->x1, most(v->x2, v->x3))));
+    box->top = most(0, first_from(least(v->y1, least(v->y2, v->y3))));
+    box->bottom = least((int32_t)(s.size_number % 512) - 1, last_up_to(most(v->y1, most(v->y2, v->y3))));
     return 0;
 }
 
@@ -84,8 +102,9 @@ merikohin_drawn NAME(per_pixel)(uint8_t *ram, size_t ram_len, merikohin_screen s
         uint8_t *colours = ram + s.colour_start + (size_t)y * (size_t)box.width * 2;
         uint8_t *depths = ram + s.depth_start + (size_t)y * (size_t)box.width * 2;
         for (int32_t x = box.left; x <= box.right; x++) {
-            if (inside(v->x1, v->y1, v->x2, v->y2, 8 * x, 8 * y) && inside(v->x2, v->y2, v->x3, v->y3, 8 * x, 8 * y) &&
-                inside(v->x3, v->y3, v->x1, v->y1, 8 * x, 8 * y))
+            int32_t px = sample(x), py = sample(y);
+            if (inside(v->x1, v->y1, v->x2, v->y2, px, py) && inside(v->x2, v->y2, v->x3, v->y3, px, py) &&
+                inside(v->x3, v->y3, v->x1, v->y1, px, py))
                 cover(&t, colours, depths, x, y, &answer);
         }
     }
@@ -116,9 +135,10 @@ merikohin_drawn NAME(stepped)(uint8_t *ram, size_t ram_len, merikohin_screen s, 
     merikohin_drawn answer = {look(ram_len, s, v, &box), 0, 0};
     if (answer.number != 0)
         return answer;
-    struct edge a = edge_at(v->x1, v->y1, v->x2, v->y2, 8 * box.left, 8 * box.top);
-    struct edge b = edge_at(v->x2, v->y2, v->x3, v->y3, 8 * box.left, 8 * box.top);
-    struct edge c = edge_at(v->x3, v->y3, v->x1, v->y1, 8 * box.left, 8 * box.top);
+    int32_t px = sample(box.left), py = sample(box.top);
+    struct edge a = edge_at(v->x1, v->y1, v->x2, v->y2, px, py);
+    struct edge b = edge_at(v->x2, v->y2, v->x3, v->y3, px, py);
+    struct edge c = edge_at(v->x3, v->y3, v->x1, v->y1, px, py);
     for (int32_t y = box.top; y <= box.bottom; y++) {
         int32_t ea = a.value, eb = b.value, ec = c.value;
         uint8_t *colours = ram + s.colour_start + (size_t)y * (size_t)box.width * 2;

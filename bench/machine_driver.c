@@ -3,6 +3,7 @@
 #include "harness.h"
 #include "merikohin.h"
 #include "opcodes.h"
+#include "sample.h"
 
 typedef merikohin_ran run_call(const uint32_t *, size_t, uint32_t *, size_t, uint8_t *, size_t, merikohin_state, uint64_t);
 
@@ -98,8 +99,9 @@ static void dot(void)
 
 /* The paper's loop over all groups of a screen, for a triangle that covers half
  * of it. In each seven the edges come first, then the planes: what a pixel to
- * the right adds, the value at the line's start, the value at the group; what a
- * row down adds is in the data memory. */
+ * the right adds, the value at the line's start (an edge's at the sample point
+ * of its first pixel), the value at the group; what a row down adds is in the
+ * data memory. */
 static void raster(void)
 {
     enum { X = 1, Y, MAX_X, MAX_Y, MASK, TMP, RIGHT = 7, LINE = 14, VALUE = 21 };
@@ -111,7 +113,8 @@ static void raster(void)
         const int64_t *from = corners[k], *to = corners[(k + 1) % 3];
         int64_t dx = to[0] - from[0], dy = to[1] - from[1];
         int zero_inside = dy < 0 || (dy == 0 && dx > 0);
-        start.registers[LINE + k] = (uint32_t)(from[0] * dy - from[1] * dx - (zero_inside ? 0 : 1));
+        int64_t value = (SAMPLE_OFFSET - from[1]) * dx - (SAMPLE_OFFSET - from[0]) * dy;
+        start.registers[LINE + k] = (uint32_t)(value - (zero_inside ? 0 : 1));
         start.registers[RIGHT + k] = (uint32_t)(-8 * dy);
         first_memory[k] = (uint32_t)(8 * dx);
     }
