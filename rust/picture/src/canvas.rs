@@ -7,7 +7,7 @@ use merikohin::{Plane, Screen, Triangle};
 /// Where in its pixel the engine samples, in eighths of a pixel to the right and
 /// down. If the rule moves that point, this number moves with it and nothing
 /// else here does; a test below asks the engine.
-pub const SAMPLE_OFFSET: i32 = 0;
+pub const SAMPLE_OFFSET: i32 = 4;
 
 /// A point in pixels. Pixel (x, y) reaches from (x, y) to (x + 1, y + 1).
 pub type Point = (f64, f64);
@@ -155,11 +155,12 @@ mod tests {
     /// sample point on its upper left corner, and nowhere else.
     #[test]
     fn the_engine_samples_there() {
-        for at in 0..8 {
+        for (right, down) in (0..64).map(|k| (k / 8, k % 8)) {
             let mut canvas = Canvas::new(16, 1, (0, 0, 0));
-            let corner = f64::from(at) / 8.0;
-            canvas.rect((corner, corner), (0.125, 0.125), 0.0, flat((0, 0, 1)));
-            assert_eq!(canvas.colours()[0] == 1, at == SAMPLE_OFFSET, "{at} eighths");
+            let corner = (f64::from(right) / 8.0, f64::from(down) / 8.0);
+            canvas.rect(corner, (0.125, 0.125), 0.0, flat((0, 0, 1)));
+            let there = right == SAMPLE_OFFSET && down == SAMPLE_OFFSET;
+            assert_eq!(canvas.colours()[0] == 1, there, "{right} and {down} eighths");
         }
     }
 
@@ -186,7 +187,8 @@ mod tests {
             [corner(0.0, 0.0, 100.0), corner(16.0, 0.0, 1700.0), corner(16.0, 2.0, 1700.0), corner(0.0, 2.0, 100.0)];
         canvas.quad(rising, flat((0, 0, 1)));
         canvas.rect((0.0, 0.0), (16.0, 2.0), 880.0, flat((0, 0, 2)));
-        let seen: Vec<u16> = (0..16).map(|x| if 100 * x + 100 < 880 { 1 } else { 2 }).collect();
+        let depth = |x: i32| 100 + 100 * (8 * x + SAMPLE_OFFSET) / 8;
+        let seen: Vec<u16> = (0..16).map(|x| if depth(x) < 880 { 1 } else { 2 }).collect();
         assert_eq!(canvas.colours()[..16], seen[..]);
     }
 

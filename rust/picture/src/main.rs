@@ -8,6 +8,7 @@ mod camera;
 mod canvas;
 mod desk;
 mod edge;
+mod grid;
 mod pitch;
 mod sound;
 mod strip;
