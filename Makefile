@@ -17,7 +17,7 @@ SHARED := target/shared/libmerikohin.so.$(VERSION)
 CARGO := cd rust && MERIKOHIN_LIB_DIR=$$PWD/../$(NATIVE) CARGO_HOME=$$PWD/../target/cargo cargo
 SOURCES := $(shell find crates -name '*.rt' -o -name '*.antt') $(wildcard include/*.h bridge/*)
 
-all: target/picture.png target/edge.png $(if $(filter x86_64,$(MACHINE)),$(SHARED))
+all: target/picture.png target/edge.png target/half-pixel.png $(if $(filter x86_64,$(MACHINE)),$(SHARED))
 
 $(NATIVE)/libmerikohin.a: $(SOURCES)
 	$(RT) staticlib merikohin
@@ -38,6 +38,9 @@ target/picture.png: command
 
 target/edge.png: command
 	target/rust/release/picture --edge >$@
+
+target/half-pixel.png: command
+	target/rust/release/picture --half-pixel >$@
 
 demo:
 	tools/demonstration

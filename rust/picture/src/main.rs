@@ -1,14 +1,16 @@
 //! Draws a picture with the engine and writes it as a PNG file to standard
-//! output: the review desk, or one shared edge enlarged.
+//! output: the review desk, or enlarged one shared edge, or half a pixel.
 //!
 //!     target/rust/release/picture > docs/picture.png
 //!     target/rust/release/picture --edge > docs/edge.png
+//!     target/rust/release/picture --half-pixel > docs/changes/M-100.png
 
 mod camera;
 mod canvas;
 mod desk;
 mod edge;
 mod grid;
+mod half_pixel;
 mod pitch;
 mod sound;
 mod strip;
@@ -29,7 +31,7 @@ fn main() -> ExitCode {
             ExitCode::SUCCESS
         }
         Err(problem) => {
-            eprintln!("picture: {problem}; it is used as picture [--edge] > FILE.png");
+            eprintln!("picture: {problem}; it is used as picture [--edge | --half-pixel] > FILE.png");
             ExitCode::from(2)
         }
     }
@@ -41,6 +43,7 @@ fn wanted(args: Args) -> Result<Canvas, String> {
     match &words[..] {
         [] => Ok(desk::draw()),
         [Arg::Option(word)] if word == "--edge" => Ok(edge::draw()),
+        [Arg::Option(word)] if word == "--half-pixel" => Ok(half_pixel::draw()),
         _ => Err("this command line is not understood".into()),
     }
 }
@@ -57,7 +60,7 @@ mod tests {
     /// writer, are what the engine draws.
     #[test]
     fn the_files_have_the_pictures() {
-        for (file, words) in [("picture", &[][..]), ("edge", &["--edge"])] {
+        for (file, words) in [("picture", &[][..]), ("edge", &["--edge"]), ("changes/M-100", &["--half-pixel"])] {
             let canvas = drawn(words);
             let (width, height) = canvas.size();
             let bytes = std::fs::read(format!("../../docs/{file}.png")).unwrap();
@@ -65,7 +68,7 @@ mod tests {
         }
     }
 
-    /// The README says how many triangles they are.
+    /// The README says how many triangles its two are.
     #[test]
     fn the_readme_counts_them() {
         let readme = std::fs::read_to_string("../../README.md").unwrap();
@@ -78,7 +81,7 @@ mod tests {
 
     #[test]
     fn other_words_are_refused() {
-        for words in [&["--edges"][..], &["edge"], &["--edge", "--edge"]] {
+        for words in [&["--edges"][..], &["edge"], &["--edge", "--edge"], &["--edge", "--half-pixel"]] {
             assert!(wanted(Args::new(words.iter().copied())).is_err());
         }
     }
