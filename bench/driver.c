@@ -2,6 +2,7 @@
  * engine and by the C baselines, whose RAMs and counts must end equal. */
 #include "harness.h"
 #include "merikohin.h"
+#include "sample.h"
 
 #include <math.h>
 
@@ -217,10 +218,12 @@ static void add_other(const char *name)
             fprintf(stderr, "no such workload: %s\n", name);
             exit(2);
         }
-        /* One and the same triangle of 50 pixels, 200 times. */
+        /* One and the same triangle, 200 times. Counted from pixel (0, 0)'s sample
+         * point, its vertices have 50 pixels wherever that point is. */
+        enum { FROM = SAMPLE_OFFSET };
         set_screen(width, height);
         for (int k = 0; k < 200; k++) {
-            add(3, 5, 85, 22, 30, 88);
+            add(FROM + 3, FROM + 5, FROM + 85, FROM + 22, FROM + 30, FROM + 88);
             triangles[k] = triangles[0];
         }
     }
