@@ -1,10 +1,10 @@
 //! The second program.
 //!
-//! It says document 01 (exact rules) once more, independently of the engine
-//! and in 01's order and words, as plainly as possible: one loop over every
-//! pixel of the screen, numbers wide enough never to overflow, no shortcuts.
-//! It is there to be compared with the engine, not to be fast. The drawing is
-//! here; the machine is in [`machine`].
+//! It says document 01 (exact rules), as 02's (change requests) M-100 changes
+//! it, once more, independently of the engine and in their order and words, as
+//! plainly as possible: one loop over every pixel of the screen, numbers wide
+//! enough never to overflow, no shortcuts. It is there to be compared with the
+//! engine, not to be fast. The drawing is here; the machine is in [`machine`].
 
 pub mod machine;
 
@@ -150,8 +150,9 @@ fn vertex_out_of_range(triangle: &Triangle) -> bool {
 fn edge_value_out_of_range(screen: Screen, triangle: &Triangle) -> bool {
     for y in 0..screen.height() {
         for x in 0..screen.width() {
+            let (px, py) = sample_point(x, y);
             for (from, to) in triangle.edges() {
-                let value = edge_value(from, to, 8 * x, 8 * y);
+                let value = edge_value(from, to, px, py);
                 if value < i128::from(i32::MIN) || value > i128::from(i32::MAX) {
                     return true;
                 }
@@ -180,7 +181,7 @@ pub fn clear(ram: &mut [u8], screen: Screen, colour: u16, depth: u16) -> u32 {
 }
 
 // ---------------------------------------------------------------------------
-// 01, "Triangles"
+// 01, "Triangles"; 02, "M-100 Half a pixel"
 // ---------------------------------------------------------------------------
 
 /// 01, Triangles: a vertex "in eighths of a pixel, x to the right, y downward".
@@ -218,7 +219,7 @@ impl Triangle {
 }
 
 /// 01, Triangles: "At pixel (x, y) a plane has c + a·x + b·y, taken modulo
-/// 2^32."
+/// 2^32." 02, M-100: "Planes still count from pixel (0, 0)".
 pub fn plane_value(plane: Plane, x: i128, y: i128) -> i128 {
     let whole = i128::from(plane.c) + i128::from(plane.a) * x + i128::from(plane.b) * y;
     whole.rem_euclid(1 << 32)
@@ -237,6 +238,12 @@ pub fn colour_at(triangle: &Triangle, x: i128, y: i128) -> i128 {
     colour_of(red, green, blue)
 }
 
+/// 02, M-100: "Document 01 was wrong: pixel (x, y) is sampled at
+/// (8x + 4, 8y + 4)."
+pub fn sample_point(x: i128, y: i128) -> (i128, i128) {
+    (8 * x + 4, 8 * y + 4)
+}
+
 /// 01, Triangles: "For the directed edge from (x1, y1) to (x2, y2) with
 /// dx = x2 - x1, dy = y2 - y1, its edge value is (py - y1)·dx - (px - x1)·dy."
 pub fn edge_value(from: Vertex, to: Vertex, px: i128, py: i128) -> i128 {
@@ -247,11 +254,11 @@ pub fn edge_value(from: Vertex, to: Vertex, px: i128, py: i128) -> i128 {
     (py - y1) * dx - (px - x1) * dy
 }
 
-/// 01, Triangles: "A pixel is sampled at the point (8x, 8y). ... The pixel is
-/// inside if the value is positive, or if it is zero and dy < 0, or zero with
-/// dy = 0 and dx > 0 (tie rule, house)."
-pub fn inside(from: Vertex, to: Vertex, x: i128, y: i128) -> bool {
-    let value = edge_value(from, to, 8 * x, 8 * y);
+/// 01, Triangles: "The pixel is inside if the value is positive, or if it is
+/// zero and dy < 0, or zero with dy = 0 and dx > 0 (tie rule, house)." (Asked of
+/// the point (px, py) at which a pixel is sampled.)
+pub fn inside(from: Vertex, to: Vertex, px: i128, py: i128) -> bool {
+    let value = edge_value(from, to, px, py);
     let dx = i128::from(to.x) - i128::from(from.x);
     let dy = i128::from(to.y) - i128::from(from.y);
     value > 0 || (value == 0 && dy < 0) || (value == 0 && dy == 0 && dx > 0)
@@ -260,7 +267,8 @@ pub fn inside(from: Vertex, to: Vertex, x: i128, y: i128) -> bool {
 /// 01, Triangles: "It is covered if it is on the screen and inside all three
 /// edges, taken in the vertices' order." (Asked of pixels on the screen.)
 pub fn covers(triangle: &Triangle, x: i128, y: i128) -> bool {
-    triangle.edges().iter().all(|&(from, to)| inside(from, to, x, y))
+    let (px, py) = sample_point(x, y);
+    triangle.edges().iter().all(|&(from, to)| inside(from, to, px, py))
 }
 
 /// 01, Numbers: the number, with the counts of pixels covered and written.
