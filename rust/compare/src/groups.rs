@@ -1,14 +1,17 @@
-//! The fixed groups: both sides of every edge document 01 names.
+//! The fixed groups: both sides of every edge document 01 names, as 02 changes
+//! it. Those of 02's M-100 alone are in [`crate::half_pixel`].
 
 use crate::case::{plain, second_triangle, Area, Call, Case, Fill, NO_PLANE};
+use crate::half_pixel;
+use crate::points::{onto_sample, sample};
 use crate::random;
 use crate::run::Run;
 use kit::rng::Rng;
 use merikohin::{Plane, Screen, Triangle};
 
 pub fn all(run: &mut Run) {
-    run.group("01's table of triangles", table);
-    run.group("01's demonstration picture", demonstration);
+    run.group("the table of triangles", table);
+    run.group("the demonstration picture", demonstration);
     run.group("vertex numbers", vertex_numbers);
     run.group("size numbers", size_numbers);
     run.group("640 by 480", full_size);
@@ -19,6 +22,10 @@ pub fn all(run: &mut Run) {
     run.group("RAM lengths", ram_lengths);
     run.group("several faults at once", several_faults);
     run.group("every triangle on a 5 by 5 grid", grid);
+    run.group("half a pixel, one eighth wide", half_pixel::one_eighth_wide);
+    run.group("half a pixel, moved by half", half_pixel::moved_by_half);
+    run.group("half a pixel, moved by a whole", half_pixel::moved_by_a_whole);
+    run.group("both sides of a sample point", half_pixel::both_sides);
     run.group("points, lines and slivers", slivers);
     run.group("far vertices", far);
     run.group("largest edge values", largest_edges);
@@ -55,7 +62,7 @@ fn flat(value: i32) -> Plane {
 }
 
 /// A triangle that covers every pixel of every screen.
-const ALL: [i32; 6] = [2556, -8192, 8191, 8191, -8192, 8191];
+const ALL: [i32; 6] = [2560, -8192, 8191, 8191, -8192, 8191];
 
 fn covers_all(rng: &mut Rng) -> Triangle {
     let mut t = plain(ALL);
@@ -86,7 +93,7 @@ fn each_call(run: &mut Run, rng: &mut Rng, ram: usize, screen: Screen, number: u
 
 /// The pixels a triangle covers, as the subject drew them; none if the call
 /// already mismatched.
-fn covered_pixels(run: &mut Run, size: u32, v: [i32; 6]) -> Option<Vec<bool>> {
+pub fn covered_pixels(run: &mut Run, size: u32, v: [i32; 6]) -> Option<Vec<bool>> {
     let (screen, ram) = tight(size);
     // All bytes 255: depth 65535 everywhere, so every covered pixel is written
     // with depth 0 and colour 0.
@@ -102,14 +109,20 @@ fn covered_pixels(run: &mut Run, size: u32, v: [i32; 6]) -> Option<Vec<bool>> {
 const STARRED_FIRST: [i32; 6] = [0, 0, 32, 0, 0, 32];
 const STARRED_SECOND: [i32; 6] = [32, 32, 0, 32, 32, 0];
 
-/// "Screen 16 by 4: (0,0), (32,0), (0,32) covers 10; (32,32), (0,32), (32,0)
-/// covers 6; no pixel in common. (0,0), (0,32), (32,0) covers 0. Three equal
-/// vertices cover 0."
+/// 02, M-100: "The starred pair on 16 by 4 now covers 6 and 10."
+const FIRST_COVERS: u32 = 6;
+const SECOND_COVERS: u32 = 10;
+
+/// 01: "Screen 16 by 4: (0,0), (32,0), (0,32) covers ...; (32,32), (0,32),
+/// (32,0) covers ...; no pixel in common. (0,0), (0,32), (32,0) covers 0. Three
+/// equal vertices cover 0." The two numbers are 02's.
 fn table(run: &mut Run, rng: &mut Rng) {
     let (screen, ram) = tight(size(1, 4));
     let turned = [0, 0, 0, 32, 32, 0];
-    let equal = [16, 16, 16, 16, 16, 16];
-    for (v, covered) in [(STARRED_FIRST, 10), (STARRED_SECOND, 6), (turned, 0), (equal, 0)] {
+    // On a pixel's corner, and on its sample point.
+    let equal = [[16; 6], [sample(2); 6]];
+    let pair = [(STARRED_FIRST, FIRST_COVERS), (STARRED_SECOND, SECOND_COVERS)];
+    for (v, covered) in pair.into_iter().chain([(turned, 0), (equal[0], 0), (equal[1], 0)]) {
         // The same triangle, started at each of its vertices.
         for turn in 0..3 {
             let k = 2 * turn;
@@ -131,13 +144,13 @@ fn table(run: &mut Run, rng: &mut Rng) {
 }
 
 pub const DEMONSTRATION: &str = "\
-1111000000000000
 1112000000000000
 1122000000000000
 1222000000000000
+2222000000000000
 ";
 
-/// "The demonstration program clears a 16 by 4 screen to colour 0, depth
+/// 01: "The demonstration program clears a 16 by 4 screen to colour 0, depth
 /// 65535, draws the starred pair with depth 0 and blue 1, then 2, and writes
 /// each pixel's colour as a digit."
 fn demonstration(run: &mut Run, rng: &mut Rng) {
@@ -161,9 +174,16 @@ fn demonstration(run: &mut Run, rng: &mut Rng) {
                     picture.push('\n');
                 }
             }
-            run.holds(picture == DEMONSTRATION, || format!("the picture is\n{picture}"));
+            let holds = picture == DEMONSTRATION && ones_as_told(&picture);
+            run.holds(holds, || format!("the picture is\n{picture}"));
         }
     }
+}
+
+/// 02, M-100: "The demonstration output has 1s where x + y is at most 2."
+fn ones_as_told(picture: &str) -> bool {
+    let in_row = |y: usize, line: &str| line.chars().enumerate().all(|(x, digit)| (digit == '1') == (x + y <= 2));
+    picture.lines().enumerate().all(|(y, line)| in_row(y, line))
 }
 
 /// 6: "a vertex number outside -8192..8191"; "8191 passes, 8192 gives 6".
@@ -576,10 +596,11 @@ fn several_faults(run: &mut Run, rng: &mut Rng) {
     }
 }
 
-/// All triangles with vertices at -4, 0, 4, 8, 12 eighths: every way to pass
-/// through sample points or between them, points and lines included.
+/// All triangles with vertices on the first two sample points of an axis,
+/// between them, before and behind: every way to pass through sample points or
+/// between them, points and lines included.
 fn grid(run: &mut Run, rng: &mut Rng) {
-    let places = [-4, 0, 4, 8, 12];
+    let places = [-4, 0, 4, 8, 12].map(|n| sample(0) + n);
     let points: Vec<(i32, i32)> = places.iter().flat_map(|&y| places.map(|x| (x, y))).collect();
     let (screen, ram) = tight(size(1, 3));
     for &(x1, y1) in &points {
@@ -635,12 +656,13 @@ fn slivers(run: &mut Run, rng: &mut Rng) {
     }
     // As long as can be, on the full size.
     let (screen, ram) = tight(20960);
+    let any_row = |rng: &mut Rng| rng.between(i64::from(sample(0)), i64::from(sample(479))) as i32;
     for _ in 0..10 {
-        let y = rng.between(0, 3832) as i32;
+        let y = any_row(rng);
         for v in [
             [-8192, y, 8191, y, 8191, y + 1],
             [-8192, y - 1, 8191, y + 1, -8192, y],
-            [0, y, 5112, rng.between(0, 3832) as i32, 5112, y + 8],
+            [sample(0), y, sample(639), any_row(rng), sample(639), y + 8],
         ] {
             let v = random::turned_right(v);
             let t = Triangle { blue: random::plane(rng), ..plain(v) };
@@ -653,18 +675,19 @@ fn slivers(run: &mut Run, rng: &mut Rng) {
 fn far(run: &mut Run, rng: &mut Rng) {
     let s = size(2, 24);
     let (screen, ram) = tight(s);
-    let (right, below) = (8 * 31, 8 * 23);
+    let (first, right, below) = (sample(0), sample(31), sample(23));
     for _ in 0..500 {
         let any = |rng: &mut Rng| rng.between(-8192, 8191) as i32;
-        let left = |rng: &mut Rng| rng.between(-8192, -1) as i32;
+        let before = |rng: &mut Rng| rng.between(-8192, i64::from(first) - 1) as i32;
+        let behind = |rng: &mut Rng, last: i32| rng.between(i64::from(last) + 1, 8191) as i32;
         let mut v = [any(rng), any(rng), any(rng), any(rng), any(rng), any(rng)];
         let side = rng.next() % 5;
         for k in 0..3 {
             match side {
-                0 => v[2 * k] = left(rng),
-                1 => v[2 * k] = rng.between(right + 1, 8191) as i32,
-                2 => v[2 * k + 1] = left(rng),
-                3 => v[2 * k + 1] = rng.between(below + 1, 8191) as i32,
+                0 => v[2 * k] = before(rng),
+                1 => v[2 * k] = behind(rng, right),
+                2 => v[2 * k + 1] = before(rng),
+                3 => v[2 * k + 1] = behind(rng, below),
                 _ => {}
             }
         }
@@ -673,17 +696,19 @@ fn far(run: &mut Run, rng: &mut Rng) {
         let t = Triangle { red: random::plane(rng), ..plain(v) };
         run.case_wants(&Case::one(ram, Fill::Random(rng.next()), screen, Call::Draw(t)), 0, covered, None);
     }
-    // One eighth, one pixel and half a pixel off each side of the screen.
+    // One eighth, one pixel and half a pixel off the first and the last sample
+    // points of the screen.
     for off in [-9, -8, -7, -4, -1, 0, 1, 4, 7, 8, 9] {
+        let (first, right, below) = (first + off, right + off, below + off);
         for v in [
-            [off, -8192, off, 8191, -8192, 0],
-            [off, 8191, off, -8192, 8191, 0],
-            [right as i32 + off, -8192, right as i32 + off, 8191, -8192, 0],
-            [right as i32 + off, 8191, right as i32 + off, -8192, 8191, 0],
-            [-8192, off, 8191, off, 0, 8191],
-            [8191, off, -8192, off, 0, -8192],
-            [-8192, below as i32 + off, 8191, below as i32 + off, 0, 8191],
-            [8191, below as i32 + off, -8192, below as i32 + off, 0, -8192],
+            [first, -8192, first, 8191, -8192, 0],
+            [first, 8191, first, -8192, 8191, 0],
+            [right, -8192, right, 8191, -8192, 0],
+            [right, 8191, right, -8192, 8191, 0],
+            [-8192, first, 8191, first, 0, 8191],
+            [8191, first, -8192, first, 0, -8192],
+            [-8192, below, 8191, below, 0, 8191],
+            [8191, below, -8192, below, 0, -8192],
         ] {
             let t = Triangle { green: random::plane(rng), ..plain(v) };
             run.case(&Case::one(ram, Fill::Random(rng.next()), screen, Call::Draw(t)));
@@ -710,11 +735,12 @@ fn largest_edges(run: &mut Run, rng: &mut Rng) {
 fn long_edges(run: &mut Run, rng: &mut Rng) {
     let (screen, ram) = tight(20960);
     let in_range = |v: i64| (-8192..=8191).contains(&v);
+    let sampled = |rng: &mut Rng, low: i64, high: i64| i64::from(sample(rng.between(low, high) as i32));
     let mut turn = 0;
     while turn < 240 {
         let (short, value) = (rng.between(0, 300), turn % 3 - 1);
         let (dy, y1) = (16383 - short, -8192 + rng.between(0, short));
-        let up = 8 * rng.between(470, 479) - y1;
+        let up = sampled(rng, 470, 479) - y1;
         let (divisor, inverse) = euclid(up, dy);
         // A zero off the edge's ends needs a common divisor, the other values need none.
         if (value == 0) == (divisor == 1) {
@@ -727,7 +753,7 @@ fn long_edges(run: &mut Run, rng: &mut Rng) {
             (value * inverse).rem_euclid(dy) - if rng.chance(2) { dy } else { 0 }
         };
         let left = (up * dx - value) / dy;
-        let x1 = 8 * rng.between(0, 639) - left;
+        let x1 = sampled(rng, 0, 639) - left;
         if !in_range(x1) || !in_range(x1 + dx) {
             continue;
         }
@@ -802,16 +828,17 @@ fn shared_edges(run: &mut Run, rng: &mut Rng) {
 fn fans(run: &mut Run, rng: &mut Rng) {
     for turn in 0..300 {
         let (groups, height) = rng.pick(&[(1, 4), (1, 16), (2, 9), (2, 24), (4, 32)]);
-        let (right, below) = (8 * (16 * groups - 1), 8 * (height - 1));
+        let (first, right, below) = (sample(0), sample(16 * groups as i32 - 1), sample(height as i32 - 1));
         let margin = rng.pick(&[8, 16, 64, 1, 3, 1000]);
-        let (x0, y0, x1, y1) = (-margin, -margin, right as i32 + margin, below as i32 + margin);
+        let (x0, y0, x1, y1) = (first - margin, first - margin, right + margin, below + margin);
         // The common vertex, often on a sample point, sometimes on the frame's
         // very corner pixel.
-        let mut centre = (rng.between(0, i64::from(right)) as i32, rng.between(0, i64::from(below)) as i32);
+        let any = |rng: &mut Rng, last: i32| rng.between(i64::from(first), i64::from(last)) as i32;
+        let mut centre = (any(rng, right), any(rng, below));
         if turn % 2 == 0 {
-            centre = (centre.0 / 8 * 8, centre.1 / 8 * 8);
+            centre = (onto_sample(centre.0), onto_sample(centre.1));
         }
-        let on_grid = |n: i64| if turn % 3 == 0 { (n / 8 * 8) as i32 } else { n as i32 };
+        let on_grid = |n: i64| if turn % 3 == 0 { onto_sample(n as i32) } else { n as i32 };
         // Around the frame: top to the right, right side down, bottom to the
         // left, left side up; corners always included.
         let mut ring = Vec::new();
@@ -860,21 +887,28 @@ fn depth(run: &mut Run, rng: &mut Rng) {
                 let c = (u32::from(new) << 16 | low) as i32;
                 let t = Triangle { depth: Plane { c, a: 0, b: 0 }, red: flat(21), ..plain(STARRED_FIRST) };
                 let calls = [Call::Clear { colour: 0xffff, depth: stored }, Call::Draw(t)];
-                let written = if new <= stored { 10 } else { 0 };
+                let written = if new <= stored { FIRST_COVERS } else { 0 };
                 let case = Case::many(ram, Fill::Random(rng.next()), screen, &calls);
-                run.case_wants(&case, 0, Some(10), Some(written));
+                run.case_wants(&case, 0, Some(FIRST_COVERS), Some(written));
             }
         }
     }
     // Equal depth: the later one is seen, whoever comes first; a nearer one
     // keeps its place.
-    for (first, second, written) in
-        [(5, 5, 10), (5, 4, 10), (5, 6, 0), (65535, 0, 10), (0, 65535, 0), (65535, 65535, 10), (0, 0, 10)]
-    {
+    for (first, second, passes) in [
+        (5, 5, true),
+        (5, 4, true),
+        (5, 6, false),
+        (65535, 0, true),
+        (0, 65535, false),
+        (65535, 65535, true),
+        (0, 0, true),
+    ] {
         let one = Triangle { depth: flat(first), blue: flat(1), ..plain(STARRED_FIRST) };
         let two = Triangle { depth: flat(second), blue: flat(2), ..plain(STARRED_FIRST) };
         let calls = [Call::Clear { colour: 0, depth: 65535 }, Call::Draw(one), Call::Draw(two)];
-        run.case_wants(&Case::many(ram, Fill::Random(rng.next()), screen, &calls), 0, Some(10), Some(written));
+        let case = Case::many(ram, Fill::Random(rng.next()), screen, &calls);
+        run.case_wants(&case, 0, Some(FIRST_COVERS), Some(if passes { FIRST_COVERS } else { 0 }));
     }
     // Depth planes that cross each other, and steps of a fraction of a depth.
     let (screen, ram) = tight(size(2, 16));

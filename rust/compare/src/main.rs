@@ -17,7 +17,9 @@
 mod case;
 mod check;
 mod groups;
+mod half_pixel;
 mod machine;
+mod points;
 mod random;
 mod run;
 mod shrink;

@@ -2,6 +2,7 @@
 
 use crate::case::{plain, Area, Call, Case, Fill, Step};
 use crate::groups::{area, size};
+use crate::points::{onto_sample, sample};
 use crate::run::Run;
 use kit::rng::Rng;
 use merikohin::{Plane, Screen, Triangle};
@@ -29,7 +30,7 @@ pub fn near(rng: &mut Rng, width: i64, height: i64) -> (i32, i32) {
     match rng.next() % 4 {
         0 => (x, y),
         1 => (x & !3, y & !3),
-        _ => (x & !7, y & !7),
+        _ => (onto_sample(x), onto_sample(y)),
     }
 }
 
@@ -51,7 +52,8 @@ pub fn turned_right(v: [i32; 6]) -> [i32; 6] {
 pub fn triangle(rng: &mut Rng, width: i64, height: i64) -> Triangle {
     let anywhere = |rng: &mut Rng| (rng.between(-8192, 8191) as i32, rng.between(-8192, 8191) as i32);
     let extreme = |rng: &mut Rng| {
-        let ends = [-8192, 8191, -8191, 8190, 0, -8, 8, -1, 1];
+        let first = sample(0);
+        let ends = [-8192, 8191, -8191, 8190, first, first - 8, first + 8, first - 1, first + 1];
         (rng.pick(&ends), rng.pick(&ends))
     };
     let kind = rng.next() % 10;

@@ -181,7 +181,7 @@ impl Run {
         holds.then_some(last)
     }
 
-    /// One more comparison: something document 01 says outright.
+    /// One more comparison: something the documents say outright.
     pub fn holds(&mut self, holds: bool, words: impl FnOnce() -> String) {
         self.comparisons += 1;
         if !holds && self.mismatch() {

@@ -7,10 +7,16 @@ use crate::machine::case::plain_state;
 use merikohin::raw::{self, Drawn, Ran, Stepped};
 use merikohin::{Refusal, Screen, State, Triangle};
 
-/// The slips a wrong variant can have: five of the drawing, the others of the
+/// The slips a wrong variant can have: eight of the drawing, the others of the
 /// machine.
 #[derive(Clone, Copy, Debug, PartialEq, Eq)]
 pub enum Slip {
+    /// A pixel is sampled at its upper left corner, as 01 had it before 02.
+    UpperLeft,
+    /// The same in x alone: (8x, 8y + 4).
+    UpperLeftX,
+    /// The same in y alone: (8x + 4, 8y).
+    UpperLeftY,
     /// An edge value of zero counts as inside for every edge.
     Ties,
     /// Depths are compared as signed half-words.
@@ -53,11 +59,24 @@ pub enum Slip {
 
 impl Slip {
     pub fn of_the_machine(self) -> bool {
-        !matches!(self, Slip::Ties | Slip::SignedDepth | Slip::Count | Slip::RefusalWrites | Slip::ColoursForDepths)
+        !matches!(
+            self,
+            Slip::UpperLeft
+                | Slip::UpperLeftX
+                | Slip::UpperLeftY
+                | Slip::Ties
+                | Slip::SignedDepth
+                | Slip::Count
+                | Slip::RefusalWrites
+                | Slip::ColoursForDepths
+        )
     }
 }
 
-pub const SLIPS: [(&str, Slip); 18] = [
+pub const SLIPS: [(&str, Slip); 21] = [
+    ("upper-left", Slip::UpperLeft),
+    ("upper-left-x", Slip::UpperLeftX),
+    ("upper-left-y", Slip::UpperLeftY),
     ("ties", Slip::Ties),
     ("signed-depth", Slip::SignedDepth),
     ("count", Slip::Count),
@@ -217,6 +236,21 @@ fn refused(slip: Slip, ram: &mut [u8]) {
     }
 }
 
+/// Whether a triangle covers a pixel, with one slip.
+fn broken_covers(slip: Slip, t: &second::Triangle, x: i128, y: i128) -> bool {
+    let (px, py) = second::sample_point(x, y);
+    let (px, py) = match slip {
+        Slip::UpperLeft => (8 * x, 8 * y),
+        Slip::UpperLeftX => (8 * x, py),
+        Slip::UpperLeftY => (px, 8 * y),
+        _ => (px, py),
+    };
+    t.edges().iter().all(|&(from, to)| match slip {
+        Slip::Ties => second::edge_value(from, to, px, py) >= 0,
+        _ => second::inside(from, to, px, py),
+    })
+}
+
 /// The second program's drawer, with one slip.
 fn broken_draw(slip: Slip, ram: &mut [u8], screen: second::Screen, t: &second::Triangle) -> Drawn {
     let number = second::draw_number(ram.len(), screen, t);
@@ -224,16 +258,12 @@ fn broken_draw(slip: Slip, ram: &mut [u8], screen: second::Screen, t: &second::T
         refused(slip, ram);
         return Drawn { number, covered: 0, written: 0 };
     }
-    let covers = |x: i128, y: i128| match slip {
-        Slip::Ties => t.edges().iter().all(|&(from, to)| second::edge_value(from, to, 8 * x, 8 * y) >= 0),
-        _ => second::covers(t, x, y),
-    };
     let (mut covered, mut written, mut partly) = (0, 0, false);
     for y in 0..screen.height() {
         for group in 0..screen.groups() {
             let mut in_group = 0;
             for x in 16 * group..16 * group + 16 {
-                if !covers(x, y) {
+                if !broken_covers(slip, t, x, y) {
                     continue;
                 }
                 in_group += 1;

@@ -5,6 +5,7 @@
 use super::case::{Case, FRESH};
 use crate::case::plain;
 use crate::groups::{area, size, tight, DEMONSTRATION};
+use crate::points::{onto_sample, sample};
 use crate::random;
 use crate::run::Run;
 use kit::rng::Rng;
@@ -230,7 +231,8 @@ fn loop_steps(corners: [u32; 4]) -> u64 {
 
 /// The data of one triangle: "A = -8·dy, B = 8·dx, C = edge value at pixel
 /// (0,0)'s sample point, less 1 for each edge whose zeros are out"; all start
-/// values taken on to the box's first pixel.
+/// values taken on to the box's first pixel. The planes start from pixel (0, 0)
+/// itself.
 fn set_up(t: &Triangle, screen: Screen, corners: [u32; 4]) -> Vec<u32> {
     let [min_x, max_x, min_y, max_y] = corners;
     let at_corner = |c: i64, a: i64, b: i64| (c + a * i64::from(min_x) + b * i64::from(min_y)) as u32;
@@ -242,11 +244,12 @@ fn set_up(t: &Triangle, screen: Screen, corners: [u32; 4]) -> Vec<u32> {
     }
     let v = [(t.vertices.x1, t.vertices.y1), (t.vertices.x2, t.vertices.y2), (t.vertices.x3, t.vertices.y3)]
         .map(|(x, y)| (i64::from(x), i64::from(y)));
+    let first = i64::from(sample(0));
     for k in 0..3 {
         let (from, to) = (v[k], v[(k + 1) % 3]);
         let (dx, dy) = (to.0 - from.0, to.1 - from.1);
         let zeros_in = dy < 0 || (dy == 0 && dx > 0);
-        let c = -from.1 * dx + from.0 * dy - i64::from(!zeros_in);
+        let c = (first - from.1) * dx - (first - from.0) * dy - i64::from(!zeros_in);
         let (a, b) = (-8 * dy, 8 * dx);
         words[EDGE_RIGHT + k] = a as u32;
         words[EDGE_DOWN + k] = b as u32;
@@ -264,8 +267,10 @@ fn box_of(rng: &mut Rng, t: &Triangle, screen: Screen) -> [u32; 4] {
         return [0, width as u32 - 1, 0, height as u32 - 1];
     }
     let (x, y) = ([t.vertices.x1, t.vertices.x2, t.vertices.x3], [t.vertices.y1, t.vertices.y2, t.vertices.y3]);
-    let least = |n: [i32; 3]| n[0].min(n[1]).min(n[2]) >> 3;
-    let most = |n: [i32; 3]| n[0].max(n[1]).max(n[2]) >> 3;
+    // The last column or row that is sampled at the place or before it.
+    let sampled_by = |place: i32| (place - sample(0)) >> 3;
+    let least = |n: [i32; 3]| sampled_by(n[0].min(n[1]).min(n[2]));
+    let most = |n: [i32; 3]| sampled_by(n[0].max(n[1]).max(n[2]));
     let left = least(x).clamp(0, width - 1) / 16 * 16;
     let top = least(y).clamp(0, height - 1);
     let right = most(x).clamp(left, width - 1);
@@ -306,13 +311,13 @@ fn loops_against_drawer(run: &mut Run, rng: &mut Rng, screen: Screen, ram: usize
 
 /// A triangle the loop draws as the drawer does: "only D > 0 ... D >= 3 rules
 /// out the all-negative case".
-fn fitting_triangle(rng: &mut Rng, width: i64, height: i64, whole_pixels: bool) -> Triangle {
+fn fitting_triangle(rng: &mut Rng, width: i64, height: i64, on_samples: bool) -> Triangle {
     loop {
         let mut t = random::triangle(rng, width, height);
         let mut v = t.vertices.numbers();
-        if whole_pixels {
+        if on_samples {
             // Many edges through sample points.
-            v = v.map(|n| n & !7);
+            v = v.map(onto_sample);
         }
         let v = random::turned_right(v);
         t.vertices = v.into();
@@ -382,7 +387,7 @@ pub fn rasterization(run: &mut Run, rng: &mut Rng) {
     demonstration(run, rng);
 }
 
-/// 01's demonstration picture by the machine alone: CLS to colour 0 and depth
+/// The demonstration picture by the machine alone: CLS to colour 0 and depth
 /// 65535, then two loops with depth 0 and blue 1, then 2.
 fn demonstration(run: &mut Run, rng: &mut Rng) {
     let (screen, ram) = tight(size(1, 4));
