@@ -218,8 +218,8 @@ static void add_other(const char *name)
             fprintf(stderr, "no such workload: %s\n", name);
             exit(2);
         }
-        /* One and the same triangle, 200 times. Counted from pixel (0, 0)'s sample
-         * point, its vertices have 50 pixels wherever that point is. */
+        /* One and the same triangle, 200 times. Its vertices are counted from pixel
+         * (0, 0)'s sample point, so that it has 50 pixels wherever that point is. */
         enum { FROM = SAMPLE_OFFSET };
         set_screen(width, height);
         for (int k = 0; k < 200; k++) {

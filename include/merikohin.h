@@ -42,7 +42,7 @@
 #define MERIKOHIN_VERSION_MAJOR 0
 #define MERIKOHIN_VERSION_MINOR 1
 #define MERIKOHIN_VERSION_PATCH 0
-#define MERIKOHIN_VERSION "0.1.0"
+#define MERIKOHIN_VERSION "0.2.0"
 
 /* The limits. */
 #define MERIKOHIN_PROGRAM_MOST 1024 /* words of a program */

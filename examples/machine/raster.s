@@ -5,8 +5,8 @@
 ; loop of the paper. It leaves exactly the bytes that examples/scenes/raster.txt
 ; gives with `merikohin draw`.
 
-; Where in its pixel an edge is sampled, in eighths to the right and down: in
-; the middle. Pixel (0, 0)'s sample point is (4, 4). Planes count from pixel
+; Where in a pixel an edge is sampled, in eighths to the right and down: at
+; its centre. Pixel (0, 0)'s sample point is (4, 4). Planes count from pixel
 ; (0, 0) itself.
         .equ    sample, 4
 

@@ -1,6 +1,6 @@
 -- An edge between vertices in range: its numbers are within 8,192, its value at a pixel within 419,659,776 and, on the largest screen,
 -- within 415,079,688; and a callee that reads it from the machine's words reads the same edge. Said once over the edge.
-use Prim.Native.Nat.{ℕ, _≤_, _<_}
+use Prim.Native.Nat.{ℕ, _+_, _*_, _≤_, _<_}
 use mathlib.Core.Path.{_≡_, _∙_, ap}
 use mathlib.Core.Bool.{true, _&&_}
 use mathlib.Core.List.{List, [], _∷_}
@@ -14,7 +14,7 @@ use Rattle.ints.proofs.Poly.{var, con, _⊖_}
 use Rattle.ints.proofs.Order.{leZ-true, le-of, le-to}
 use Rattle.ints.proofs.Bounds.{Within, within-pos, within-range, within-lit, within-sub, within-mul, fits-32}
 use Rattle.rules.specs.declared.Vertices.{Vertices}
-use Rattle.rules.specs.Triangles.{Edge, edge1, edge2, edge3, edgeValue, sample}
+use Rattle.rules.specs.Triangles.{Edge, dx, dy, edge1, edge2, edge3, edgeValue, sampleOffset, sample}
 use Rattle.rules.specs.Numbers.{vertexInRange, verticesInRange}
 use Rattle.rules.proofs.Choices.{and-true}
 use Rattle.edges.specs.Edges.{edgeFrom, edgeInRange}
@@ -54,13 +54,25 @@ edge-within e h =
     }
 
 module _ (e : Edge) (w : EdgeWithin e) where
-  -- wherever in its pixel the sample point lies
-  pub value-within : (x y : ℕ) → x ≤ 640 → y ≤ 512 → Within 419659776 (edgeValue e (sample x y))
+  -- by how far right and down the point can lie, and how far apart two vertices
+  value-by : {right down far : ℕ} (x y : ℕ)
+      → 8 * x + sampleOffset ≤ right
+      → 8 * y + sampleOffset ≤ down
+      → Within far (dx e)
+      → Within far (dy e)
+      → Within ((down + 8192) * far + (right + 8192) * far) (edgeValue e (sample x y))
   unfolding edgeValue sample
-  value-within x y hx hy =
+  value-by x y r d u v =
       within-sub
-      (within-mul (within-sub (within-pos {n = 4103} (omega arith)) (w .in-y1)) (within-sub (w .in-x2) (w .in-x1)))
-      (within-mul (within-sub (within-pos {n = 5127} (omega arith)) (w .in-x1)) (within-sub (w .in-y2) (w .in-y1)))
+      (within-mul (within-sub (within-pos d) (w .in-y1)) u)
+      (within-mul (within-sub (within-pos r) (w .in-x1)) v)
+
+  -- with room for an offset up to 7
+  pub value-within : (x y : ℕ) → x ≤ 640 → y ≤ 512 → Within 419659776 (edgeValue e (sample x y))
+  value-within x y hx hy =
+      value-by {right = 5127} {down = 4103} x y (omega arith) (omega arith)
+      (within-sub (w .in-x2) (w .in-x1))
+      (within-sub (w .in-y2) (w .in-y1))
 
 -- the difference of two vertex numbers, by both ends of their range
 difference-within : (a b : ℤ) → vertexInRange a ≡ true → vertexInRange b ≡ true → Within 16383 (b -ℤ a)
@@ -84,17 +96,11 @@ difference-within a b h k =
 
 -- at the sample point, on a screen up to 640 by 480
 pub value-bound : (e : Edge) → edgeInRange e ≡ true → (x y : ℕ) → x < 640 → y < 480 → Within 415079688 (edgeValue e (sample x y))
-unfolding edgeValue sample
 value-bound e h x y hx hy =
     let f = four e h in
-    let w = edge-within e h in
-    within-sub
-    (within-mul
-    (within-sub (within-pos {n = 3836} (omega arith)) (w .in-y1))
-    (difference-within (e .x1) (e .x2) (f .in-x1) (f .in-x2)))
-    (within-mul
-    (within-sub (within-pos {n = 5116} (omega arith)) (w .in-x1))
-    (difference-within (e .y1) (e .y2) (f .in-y1) (f .in-y2)))
+    value-by e (edge-within e h) {right = 5116} {down = 3836} x y (omega arith) (omega arith)
+    (difference-within (e .x1) (e .x2) (f .in-x1) (f .in-x2))
+    (difference-within (e .y1) (e .y2) (f .in-y1) (f .in-y2))
 
 -- the three edges
 

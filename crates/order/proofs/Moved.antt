@@ -6,23 +6,25 @@ use mathlib.Core.Path.{_≡_, refl, sym, _∙_, ap, ap₂, subst}
 use mathlib.Core.Bool.{Bool, true, _&&_}
 use mathlib.Core.List.{List, [], _∷_}
 use native.Mathlib.Omega.{arith}
-use lib.Dec.{leb, ltb}
+use lib.Dec.{ltb}
 use lib.ListN.{length}
 use lib.IntN.{ℤ, pos, _+ℤ_, _-ℤ_}
 use borrow.Author.Tests.{ltb-true, lt-ltb}
-use Rattle.ints.proofs.Poly.{var, _⊕_, _⊖_, _⊗_, solve}
-use Rattle.ram.specs.Ram.{loadHalf}
+use Rattle.ints.specs.Modulo.{mod32}
+use Rattle.ints.proofs.Poly.{var, con, _⊕_, _⊖_, _⊗_, solve}
 use Rattle.rules.specs.declared.Screen.{Screen}
+use Rattle.rules.specs.declared.Plane.{Plane}
 use Rattle.rules.specs.declared.Vertices.{Vertices}
 use Rattle.rules.specs.declared.Triangle.{Triangle}
 use Rattle.rules.specs.Folds.{pixels}
-use Rattle.rules.specs.Sizes.{width, height, sound, depthAt}
-use Rattle.rules.specs.Triangles.{Point, Edge, edgeValue, inside, insideAll, pointIn, sampleOffset, sample, onScreen, coveredBy, covered, coveredPixels}
-use Rattle.rules.specs.Triangles.{triangleDepth, triangleColour, trianglePixel, written, writtenPixels, drawn, edge1, edge2, edge3}
+use Rattle.rules.specs.Sizes.{width, height, sound}
+use Rattle.rules.specs.Triangles.{planeAt, triangleDepth, triangleColour, trianglePixel, Point, pointIn, sampleOffset, sample}
+use Rattle.rules.specs.Triangles.{Edge, edgeValue, inside, edge1, edge2, edge3, insideAll, onScreen, coveredBy, covered}
+use Rattle.rules.specs.Triangles.{atMostStored, written, coveredPixels, writtenPixels, drawn}
 use Rattle.rules.proofs.Choices.{and-true}
 use Rattle.rules.proofs.Folds.{pixels-same}
 use Rattle.order.specs.Pointwise.{Painted}
-use Rattle.order.specs.Moved.{movedPoint, movedEdge, movedVertices, moved, writtenBy}
+use Rattle.order.specs.Moved.{movedPoint, movedEdge, movedVertices, moved, movedHalf, writtenBy}
 use Rattle.order.proofs.Sides.{within, inside-is}
 use Rattle.order.proofs.Pointwise.{drawn-pointwise}
 
@@ -54,70 +56,79 @@ module _ (right down : ℤ) where
   unfolding insideAll
   moved-inside-all v p = ap₂ _&&_ (ap₂ _&&_ (moved-inside (edge1 v) p) (moved-inside (edge2 v) p)) (moved-inside (edge3 v) p)
 
--- half a pixel, and any other offset
+  -- at q, which is p moved
+  moved-inside-at : (v : Vertices) (p : Point) {q : Point}
+      → q ≡ movedPoint right down p
+      → insideAll (movedVertices right down v) q ≡ insideAll v p
+  moved-inside-at v p e = ap (insideAll (movedVertices right down v)) e ∙ moved-inside-all v p
 
-further : (o d x y : ℕ) → pointIn (o + d) x y ≡ movedPoint (pos d) (pos d) (pointIn o x y)
-further o d x y = λ i. record { px = pos (sum x i); py = pos (sum y i) }
-  where
-    sum : (n : ℕ) → 8 * n + (o + d) ≡ 8 * n + o + d
-    sum n = omega arith
+  pub moved-covered : (at : ℕ → ℕ → Point) (t : Triangle) (s : Screen) (x y : ℕ)
+      → coveredBy (λ i j. movedPoint right down (at i j)) (moved right down t) s x y ≡ coveredBy at t s x y
+  moved-covered at t s x y = ap (λ (b : Bool). onScreen s x y && b) (moved-inside-all (t .vertices) (at x y))
+
+-- from one point of a pixel to another, and the half pixel
 
 module _ (t : Triangle) (s : Screen) (x y : ℕ) where
-  pub offset-moved : (o d : ℕ) → coveredBy (pointIn (o + d)) (moved (pos d) (pos d) t) s x y ≡ coveredBy (pointIn o) t s x y
-  offset-moved o d =
+  pub offset-moved : (a b c d : ℕ)
+      → coveredBy (pointIn (a + c) (b + d)) (moved (pos c) (pos d) t) s x y ≡ coveredBy (pointIn a b) t s x y
+  offset-moved a b c d =
       ap (λ (b : Bool). onScreen s x y && b)
-      (ap (insideAll (movedVertices (pos d) (pos d) (t .vertices))) (further o d x y)
-      ∙ moved-inside-all (pos d) (pos d) (t .vertices) (pointIn o x y))
+      (moved-inside-at (pos c) (pos d) (t .vertices) (pointIn a b x y) (λ i. record { px = pos (sum x a c i); py = pos (sum y b d i) }))
+    where
+      sum : (n o k : ℕ) → 8 * n + (o + k) ≡ 8 * n + o + k
+      sum n o k = omega arith
 
-  -- the sample point as it is, and as it was
-  pub half-pixel : covered (moved (pos 4) (pos 4) t) s x y ≡ coveredBy (pointIn 0) t s x y
+  pub half-pixel : covered (movedHalf t) s x y ≡ coveredBy (pointIn 0 0) t s x y
   unfolding covered sample
-  half-pixel = offset-moved 0 4
+  half-pixel = offset-moved 0 0 4 4
 
--- what the planes give at a pixel does not move
+-- "Planes still count from pixel (0, 0)"
+pub plane-first : (p : Plane) → planeAt p 0 0 ≡ mod32 (p .c)
+unfolding planeAt
+plane-first p =
+    ap mod32
+    (solve (p .c ∷ p .a ∷ p .b ∷ []) (var 0 ⊕ var 1 ⊗ con (pos 0) ⊕ var 2 ⊗ con (pos 0)) (var 0) tt)
+
+-- so what they give at a pixel does not move
 pub moved-pixel : (right down : ℤ) (t : Triangle) (x y : ℕ) → trianglePixel (moved right down t) x y ≡ trianglePixel t x y
 unfolding triangleColour triangleDepth
 moved-pixel right down t x y = refl
 
 module _ (t : Triangle) (s : Screen) (m : List ℕ) where
-  half-pixel-written : (x y : ℕ) → written (moved (pos 4) (pos 4) t) s m x y ≡ writtenBy (pointIn 0) t s m x y
+  half-pixel-written : (x y : ℕ) → written (movedHalf t) s m x y ≡ writtenBy (pointIn 0 0) t s m x y
   unfolding written triangleDepth
-  half-pixel-written x y = ap (λ (b : Bool). b && leb (triangleDepth t x y) (loadHalf m (depthAt s x y))) (half-pixel t s x y)
+  half-pixel-written x y = ap (λ (b : Bool). b && atMostStored t s m x y) (half-pixel t s x y)
 
   pub half-pixel-counts :
-      (coveredPixels (moved (pos 4) (pos 4) t) s ≡ pixels (coveredBy (pointIn 0) t s) (width (s .size)) (height (s .size)))
-      × (writtenPixels (moved (pos 4) (pos 4) t) s m ≡ pixels (writtenBy (pointIn 0) t s m) (width (s .size)) (height (s .size)))
+      (coveredPixels (movedHalf t) s ≡ pixels (coveredBy (pointIn 0 0) t s) (width (s .size)) (height (s .size)))
+      × (writtenPixels (movedHalf t) s m ≡ pixels (writtenBy (pointIn 0 0) t s m) (width (s .size)) (height (s .size)))
   half-pixel-counts = (
     pixels-same _ _ _ _ (λ x y a b. half-pixel t s x y),
     pixels-same _ _ _ _ (λ x y a b. half-pixel-written x y),
   )
 
   pub half-pixel-paints : sound (length m) s ≡ true
-      → Painted s (writtenBy (pointIn 0) t s m) (trianglePixel t) m (drawn (moved (pos 4) (pos 4) t) s m)
+      → Painted s (writtenBy (pointIn 0 0) t s m) (trianglePixel t) m (drawn (movedHalf t) s m)
   unfolding triangleColour triangleDepth
   half-pixel-paints h =
-      subst (λ (picked : ℕ → ℕ → Bool). Painted s picked (trianglePixel t) m (drawn (moved (pos 4) (pos 4) t) s m))
+      subst (λ (picked : ℕ → ℕ → Bool). Painted s picked (trianglePixel t) m (drawn (movedHalf t) s m))
       (λ i x y. half-pixel-written x y i)
-      (drawn-pointwise s m h (moved (pos 4) (pos 4) t))
+      (drawn-pointwise s m h (movedHalf t))
 
--- whole pixels
-
-on : (o i j x y : ℕ) → pointIn o (x + i) (y + j) ≡ movedPoint (pos (8 * i)) (pos (8 * j)) (pointIn o x y)
-on o i j x y = λ k. record { px = pos (sum x i k); py = pos (sum y j k) }
-  where
-    sum : (n k : ℕ) → 8 * (n + k) + o ≡ 8 * n + o + 8 * k
-    sum n k = omega arith
+-- whole pixels, i columns and j rows
 
 module _ (i j x y : ℕ) where
-  pub whole-pixels-inside : (o : ℕ) (v : Vertices)
-      → insideAll (movedVertices (pos (8 * i)) (pos (8 * j)) v) (pointIn o (x + i) (y + j)) ≡ insideAll v (pointIn o x y)
-  whole-pixels-inside o v =
-      ap (insideAll (movedVertices (pos (8 * i)) (pos (8 * j)) v)) (on o i j x y)
-      ∙ moved-inside-all (pos (8 * i)) (pos (8 * j)) v (pointIn o x y)
+  pub whole-pixels-inside : (a b : ℕ) (v : Vertices)
+      → insideAll (movedVertices (pos (8 * i)) (pos (8 * j)) v) (pointIn a b (x + i) (y + j)) ≡ insideAll v (pointIn a b x y)
+  whole-pixels-inside a b v =
+      moved-inside-at (pos (8 * i)) (pos (8 * j)) v (pointIn a b x y) (λ k. record { px = pos (sum x a i k); py = pos (sum y b j k) })
+    where
+      sum : (n o k : ℕ) → 8 * (n + k) + o ≡ 8 * n + o + 8 * k
+      sum n o k = omega arith
 
   module _ (t : Triangle) (s : Screen) where
-    nearer : onScreen s (x + i) (y + j) ≡ true → onScreen s x y ≡ true
-    nearer h =
+    on-screen-before : onScreen s (x + i) (y + j) ≡ true → onScreen s x y ≡ true
+    on-screen-before h =
         let (a, b) = and-true {a = ltb (x + i) (width (s .size))} h in
         rw (less x i (width (s .size)) a, less y j (height (s .size)) b)
       where
@@ -127,4 +138,4 @@ module _ (i j x y : ℕ) where
     pub whole-pixels : onScreen s (x + i) (y + j) ≡ true
         → covered (moved (pos (8 * i)) (pos (8 * j)) t) s (x + i) (y + j) ≡ covered t s x y
     unfolding covered sample
-    whole-pixels h = rw (h, nearer h) (whole-pixels-inside sampleOffset (t .vertices))
+    whole-pixels h = rw (h, on-screen-before h) (whole-pixels-inside sampleOffset sampleOffset (t .vertices))

@@ -1,16 +1,13 @@
--- A point, an edge, vertices and a triangle moved, so many eighths of a pixel to the right and down; and which pixels were written, had
--- each been judged at another point of it.
+-- A point, an edge, vertices and a triangle moved, so many eighths of a pixel to the right and down; and which pixels are written, judged
+-- at other points than the sample points.
 use Prim.Native.Nat.{ℕ}
 use mathlib.Core.Bool.{Bool, _&&_}
 use mathlib.Core.List.{List}
-use lib.Dec.{leb}
-use lib.IntN.{ℤ, _+ℤ_}
-use Rattle.ram.specs.Ram.{loadHalf}
+use lib.IntN.{ℤ, pos, _+ℤ_}
 use Rattle.rules.specs.declared.Screen.{Screen}
 use Rattle.rules.specs.declared.Vertices.{Vertices}
 use Rattle.rules.specs.declared.Triangle.{Triangle}
-use Rattle.rules.specs.Sizes.{depthAt}
-use Rattle.rules.specs.Triangles.{Point, Edge, triangleDepth, coveredBy}
+use Rattle.rules.specs.Triangles.{Point, Edge, coveredBy, atMostStored}
 
 module _ (right down : ℤ) where
   abbrev pub movedPoint : Point → Point
@@ -29,11 +26,15 @@ module _ (right down : ℤ) where
     y3 = v .y3 +ℤ down;
   }
 
-  -- "Planes still count from pixel (0, 0)" (02, M-100): they stay
+  -- its planes stay, since they count from pixel (0, 0)
   abbrev pub moved : Triangle → Triangle
   moved t =
       record { vertices = movedVertices (t .vertices); depth = t .depth; red = t .red; green = t .green; blue = t .blue }
 
--- "A covered pixel is written .. if its depth is at most the stored depth", covered as `coveredBy` has it
+-- half a pixel to the right and down
+abbrev pub movedHalf : Triangle → Triangle
+movedHalf = moved (pos 4) (pos 4)
+
+-- written, where covered is `coveredBy`
 abbrev pub writtenBy : (ℕ → ℕ → Point) → Triangle → Screen → List ℕ → ℕ → ℕ → Bool
-writtenBy at t s m x y = coveredBy at t s x y && leb (triangleDepth t x y) (loadHalf m (depthAt s x y))
+writtenBy at t s m x y = coveredBy at t s x y && atMostStored t s m x y

@@ -39,16 +39,16 @@ pub record Point : Type 0 where
   pub px : ℤ
   pub py : ℤ
 
--- the point of pixel (x, y) that lies so many eighths to the right of its upper left corner, and as many below
-abbrev pub pointIn : ℕ → ℕ → ℕ → Point
-pointIn offset x y = record { px = pos (8 * x + offset); py = pos (8 * y + offset) }
+-- the point of pixel (x, y) that lies so many eighths to the right of its upper left corner, and so many below it
+abbrev pub pointIn : ℕ → ℕ → ℕ → ℕ → Point
+pointIn right down x y = record { px = pos (8 * x + right); py = pos (8 * y + down) }
 
 -- "pixel (x, y) is sampled at (8x + 4, 8y + 4)" (02, M-100)
 abbrev pub sampleOffset : ℕ
 sampleOffset = 4
 
 unfoldable pub sample : ℕ → ℕ → Point
-sample x y = pointIn sampleOffset x y
+sample x y = pointIn sampleOffset sampleOffset x y
 
 -- "the directed edge from (x1, y1) to (x2, y2)"
 pub record Edge : Type 0 where
@@ -117,9 +117,13 @@ coveredBy at t s x y = onScreen s x y && insideAll (t .vertices) (at x y)
 unfoldable pub covered : Triangle → Screen → ℕ → ℕ → Bool
 covered t s x y = coveredBy sample t s x y
 
--- "A covered pixel is written, colour and depth, if its depth is at most the stored depth."
+-- "its depth is at most the stored depth"
+abbrev pub atMostStored : Triangle → Screen → List ℕ → ℕ → ℕ → Bool
+atMostStored t s m x y = leb (triangleDepth t x y) (loadHalf m (depthAt s x y))
+
+-- "A covered pixel is written, colour and depth, if" so
 unfoldable pub written : Triangle → Screen → List ℕ → ℕ → ℕ → Bool
-written t s m x y = covered t s x y && leb (triangleDepth t x y) (loadHalf m (depthAt s x y))
+written t s m x y = covered t s x y && atMostStored t s m x y
 
 -- "how many pixels were covered and how many written"
 abbrev pub coveredPixels : Triangle → Screen → ℕ

@@ -1,4 +1,4 @@
--- The starred cases hold: the definitions are computed, and what they give is what 01, and 02 of the pair, say, case by case.
+-- The starred cases hold: the definitions are computed, and what they give is what 01 says, and of the pair 02, case by case.
 use mathlib.Core.Path.{_≡_, refl}
 use mathlib.Core.List.{map}
 use Rattle.ints.specs.Modulo.{mod32}

@@ -1,4 +1,4 @@
--- The worked cases hold: the definitions are computed, and what they give is what was worked out from 01, case by case.
+-- The worked cases hold: the definitions are computed, and what they give is what was worked out from 01 and 02, case by case.
 use mathlib.Core.Path.{_≡_, refl}
 use mathlib.Core.List.{map}
 use Rattle.ints.specs.Modulo.{mod32}

@@ -17,7 +17,7 @@ use Rattle.rules.specs.Calls.{accepted, rowStart, depthRowStart, rowLength}
 use Rattle.starred.specs.Drawing.{screen16by4, triangle, vertices, corners}
 use Rattle.starred.specs.Machine.{minus}
 
--- what follows from 01, and what the definitions give
+-- what follows from 01 and 02, and what the definitions give
 pub record Case : Type 0 where
   pub says : List ℕ
   pub gives : List ℕ
@@ -85,7 +85,8 @@ workedDrawings =
     -- a level edge on top, through row 1's sample points: its pixels are in; at the bottom, through row 3's: they are out
     ∷ case (0 ∷ 0xFF00 ∷ 0xF000 ∷ 0 ∷ []) (shape (corners 4 12 68 12 4 28))
     ∷ case (0 ∷ 0 ∷ 0xF000 ∷ 0 ∷ []) (shape (corners 4 12 68 28 4 28))
-    -- from side to side of whole pixels: half of columns 1 and 2 and rows 1 and 2, by the diagonal; the other half
+    -- the square of columns 1 and 2 and rows 1 and 2, cut along its diagonal: above it (1, 1) alone; the sample points of (2, 1) and (1, 2)
+    -- are on the diagonal, and go with (2, 2) to the triangle that runs up it
     ∷ case (0 ∷ 0x4000 ∷ 0 ∷ 0 ∷ []) (shape (corners 8 8 24 8 8 24))
     ∷ case (0 ∷ 0x2000 ∷ 0x6000 ∷ 0 ∷ []) (shape (corners 24 24 8 24 24 8))
     -- a vertex on the sample point of (1, 1), the only one near: in where a level top edge meets a rising one; else out

@@ -4,7 +4,7 @@
 use kit::pixels;
 use merikohin::{Plane, Screen, Triangle};
 
-/// Where in its pixel the engine samples, in eighths of a pixel to the right and
+/// Where in a pixel the engine samples, in eighths of a pixel to the right and
 /// down. If the rule moves that point, this number moves with it and nothing
 /// else here does; a test below asks the engine.
 pub const SAMPLE_OFFSET: i32 = 4;

@@ -25,7 +25,7 @@ pub mod colour {
 const WIDTH: u32 = 16;
 
 /// From pixel (0, 0) on, at most 16 columns: where they begin on the picture, and
-/// a square's side with one line.
+/// `cell`, as wide as a square and one line together.
 pub struct Grid {
     pub columns: i32,
     pub rows: i32,

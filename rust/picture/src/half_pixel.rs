@@ -10,24 +10,24 @@ use crate::text::{self, Type};
 /// Half a pixel, in eighths.
 const HALF: i32 = 4;
 
-/// A side of the picture: its words, and where in its pixel the rule samples, in
-/// eighths to the right and down. The picture is of this one change: it stays
-/// as it is if the rule moves the point again.
-struct Side {
+/// A rule, and where on the picture the ball is by it: its words, and where in a
+/// pixel it samples, in eighths to the right and down. The picture is of this
+/// one change: what it shows stays if the point moves again.
+struct Rule {
     name: &'static str,
     sampled: &'static str,
     offset: i32,
     grid: Grid,
 }
 
-const BEFORE: Side = Side {
+const BEFORE: Rule = Rule {
     name: "BEFORE",
     sampled: "SAMPLED AT THE CORNER",
     offset: 0,
     grid: Grid { columns: 9, rows: 9, left: 20.0, top: 82.0, cell: 32.0 },
 };
 
-const NOW: Side = Side {
+const NOW: Rule = Rule {
     name: "NOW",
     sampled: "SAMPLED AT THE CENTRE",
     offset: HALF,
@@ -68,10 +68,10 @@ fn outline() -> Vec<(Eighths, Eighths)> {
     corners.iter().copied().zip(next.copied()).collect()
 }
 
-impl Side {
-    /// The pixels that the ball covers by this side's rule. A triangle that is
+impl Rule {
+    /// The pixels that the ball covers by this rule. A triangle that is
     /// moved as far as the sample point was moved covers now exactly what it
-    /// covered before (that is proved), so today's engine is asked about the
+    /// covered before (proved: `offset-moved`), so today's engine is asked about the
     /// moved ball.
     fn covered(&self) -> Vec<Pixel> {
         let far = SAMPLE_OFFSET - self.offset;
@@ -126,7 +126,7 @@ fn cross(canvas: &mut Canvas, at: Corner) {
     }
 }
 
-/// What the marks are, in two columns under the two sides.
+/// What the marks are, in two columns under the two balls.
 fn legend(canvas: &mut Canvas) {
     let set = Type { depth: depth::LINE, colour: INK, block: 2.0 };
     let (first, second) = (BEFORE.grid.left, NOW.grid.left);
@@ -168,18 +168,18 @@ mod tests {
         assert_eq!(centre(&now), CENTRE);
     }
 
-    /// Each side's pixels are those whose point, as the side shows it, is inside
+    /// Each rule's pixels are those whose point, as the picture shows it, is inside
     /// the ball; and no point is on its outline, where a reader could not tell.
     #[test]
     fn covered_where_the_points_are_inside() {
-        for side in [BEFORE, NOW] {
-            let covered = side.covered();
-            for at in side.grid.pixels() {
-                let (x, y) = sample(at, side.offset);
+        for rule in [BEFORE, NOW] {
+            let covered = rule.covered();
+            for at in rule.grid.pixels() {
+                let (x, y) = sample(at, rule.offset);
                 let value =
                     |(from, to): (Eighths, Eighths)| (y - from.1) * (to.0 - from.0) - (x - from.0) * (to.1 - from.1);
                 let least = outline().into_iter().map(value).min().unwrap();
-                assert!(least != 0 && covered.contains(&at) == (least > 0), "{} {at:?}", side.name);
+                assert!(least != 0 && covered.contains(&at) == (least > 0), "{} {at:?}", rule.name);
             }
         }
     }
@@ -187,11 +187,11 @@ mod tests {
     /// The ball and its pixels, as the picture shows them, are all of them on it.
     #[test]
     fn all_is_shown() {
-        for side in [BEFORE, NOW] {
-            let shown = side.grid.pixels();
-            assert!(side.covered().iter().all(|at| shown.contains(at)));
-            let on = |n: i32| (0..=8 * side.grid.columns).contains(&n);
-            assert!(corners().iter().all(|(x, y)| on(*x) && on(*y)));
+        for rule in [BEFORE, NOW] {
+            let shown = rule.grid.pixels();
+            assert!(rule.covered().iter().all(|at| shown.contains(at)));
+            let on = |n: i32, shown: i32| (0..=8 * shown).contains(&n);
+            assert!(corners().iter().all(|(x, y)| on(*x, rule.grid.columns) && on(*y, rule.grid.rows)));
         }
     }
 

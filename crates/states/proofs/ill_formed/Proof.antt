@@ -21,24 +21,24 @@ unsound len s = not (sound len (s .screen))
 abbrev refused : State → Bool
 refused s = refusesPlace (s .screen) (s .tree .column) (s .tree .row)
 
--- the definition's tests: what is wrong with any state; a screen that is unsound, a tree and no screen, a tree whose place is refused
+-- the definition's tests: wrong with any state (w); with a screen (s) an unsound one (u); with a tree (p) no screen or a refused place (r)
 abbrev judged : Bool → Bool → Bool → Bool → Bool → Bool
-judged wrong shown unsound planted refused = wrong || shown && unsound || planted && not shown || planted && refused
+judged w s u p r = w || s && u || p && not s || p && r
 
-module _ (wrong shown unsound planted refused : Bool) where
-  none-shown : not shown ≡ true → wrong || planted ≡ judged wrong shown unsound planted refused
-  none-shown = go wrong shown planted
+module _ (w s u p r : Bool) where
+  none-shown : not s ≡ true → w || p ≡ judged w s u p r
+  none-shown = go w s p
     where
-      go : (w s p : Bool) → not s ≡ true → w || p ≡ judged w s unsound p refused
+      go : (w s p : Bool) → not s ≡ true → w || p ≡ judged w s u p r
       go w true p e = absurd (false≢true e)
       go true false p e = refl
       go false false true e = refl
       go false false false e = refl
 
-  one-shown : not shown ≡ false → wrong || unsound || planted && refused ≡ judged wrong shown unsound planted refused
-  one-shown = go wrong shown unsound planted
+  one-shown : not s ≡ false → w || u || p && r ≡ judged w s u p r
+  one-shown = go w s u p
     where
-      go : (w s u p : Bool) → not s ≡ false → w || u || p && refused ≡ judged w s u p refused
+      go : (w s u p : Bool) → not s ≡ false → w || u || p && r ≡ judged w s u p r
       go true s u p e = refl
       go false true true p e = refl
       go false true false true e = refl
