@@ -147,32 +147,13 @@ pub fn lent_state(state: State) -> LentState
     }
 }
 
-// The same tree, and the same state, field by field: a copy in one piece would be a call of C's memcpy, which takes longer.
-fn tree_copied(tree: LentTree) -> LentTree
-    ensures { λ r. ⌜ r ≡ tree ⌝ }
-{
-    let inside = tree.inside;
-    let outside = tree.outside;
-    let colour = tree.colour;
-    let depth = tree.depth;
-    LentTree {
-        column: tree.column,
-        row: tree.row,
-        inside,
-        outside,
-        colour,
-        depth,
-        held: tree.held,
-    }
-}
-
+// The same state, field by field: a copy in one piece would be a call of C's memcpy, which takes longer.
 pub fn state_copied(state: LentState) -> LentState
     ensures { λ r. ⌜ r ≡ state ⌝ }
 {
     let regs = state.regs;
     let screen = state.screen;
-    let grown = state.tree;
-    let tree = tree_copied(grown);
+    let tree = state.tree;
     LentState {
         regs,
         place: state.place,
