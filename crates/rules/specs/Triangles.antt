@@ -110,7 +110,8 @@ doubledArea v = (v .x2 -ℤ v .x1) *ℤ (v .y3 -ℤ v .y1) -ℤ (v .x3 -ℤ v .x
 abbrev pub onScreen : Screen → ℕ → ℕ → Bool
 onScreen s x y = ltb x (width (s .size)) && ltb y (height (s .size))
 
--- "It is covered if it is on the screen and inside all three edges", judged at the point that `at` gives of each pixel
+-- "It is covered if it is on the screen and inside all three edges": first where pixel (x, y) is judged at the point `at x y`, then at its
+-- sample point
 abbrev pub coveredBy : (ℕ → ℕ → Point) → Triangle → Screen → ℕ → ℕ → Bool
 coveredBy at t s x y = onScreen s x y && insideAll (t .vertices) (at x y)
 
@@ -121,7 +122,7 @@ covered t s x y = coveredBy sample t s x y
 abbrev pub atMostStored : Triangle → Screen → List ℕ → ℕ → ℕ → Bool
 atMostStored t s m x y = leb (triangleDepth t x y) (loadHalf m (depthAt s x y))
 
--- "A covered pixel is written, colour and depth, if" so
+-- "A covered pixel is written, colour and depth, if its depth is at most the stored depth."
 unfoldable pub written : Triangle → Screen → List ℕ → ℕ → ℕ → Bool
 written t s m x y = covered t s x y && atMostStored t s m x y
 
