@@ -13,4 +13,4 @@ pub mod Trees
 pub mod Unique
 pub mod Stepping
 pub mod Meaning
-pub mod Moved
+pub mod Moves

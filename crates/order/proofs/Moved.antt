@@ -56,12 +56,6 @@ module _ (right down : ℤ) where
   unfolding insideAll
   moved-inside-all v p = ap₂ _&&_ (ap₂ _&&_ (moved-inside (edge1 v) p) (moved-inside (edge2 v) p)) (moved-inside (edge3 v) p)
 
-  -- at q, which is p moved
-  moved-inside-at : (v : Vertices) (p : Point) {q : Point}
-      → q ≡ movedPoint right down p
-      → insideAll (movedVertices right down v) q ≡ insideAll v p
-  moved-inside-at v p e = ap (insideAll (movedVertices right down v)) e ∙ moved-inside-all v p
-
   pub moved-covered : (at : ℕ → ℕ → Point) (t : Triangle) (s : Screen) (x y : ℕ)
       → coveredBy (λ i j. movedPoint right down (at i j)) (moved right down t) s x y ≡ coveredBy at t s x y
   moved-covered at t s x y = ap (λ (b : Bool). onScreen s x y && b) (moved-inside-all (t .vertices) (at x y))
@@ -72,8 +66,9 @@ module _ (t : Triangle) (s : Screen) (x y : ℕ) where
   pub offset-moved : (a b c d : ℕ)
       → coveredBy (pointIn (a + c) (b + d)) (moved (pos c) (pos d) t) s x y ≡ coveredBy (pointIn a b) t s x y
   offset-moved a b c d =
-      ap (λ (b : Bool). onScreen s x y && b)
-      (moved-inside-at (pos c) (pos d) (t .vertices) (pointIn a b x y) (λ i. record { px = pos (sum x a c i); py = pos (sum y b d i) }))
+      ap (λ (p : Point). onScreen s x y && insideAll (movedVertices (pos c) (pos d) (t .vertices)) p)
+      (λ i. record { px = pos (sum x a c i); py = pos (sum y b d i) })
+      ∙ moved-covered (pos c) (pos d) (pointIn a b) t s x y
     where
       sum : (n o k : ℕ) → 8 * n + (o + k) ≡ 8 * n + o + k
       sum n o k = omega arith
@@ -121,7 +116,8 @@ module _ (i j x y : ℕ) where
   pub whole-pixels-inside : (a b : ℕ) (v : Vertices)
       → insideAll (movedVertices (pos (8 * i)) (pos (8 * j)) v) (pointIn a b (x + i) (y + j)) ≡ insideAll v (pointIn a b x y)
   whole-pixels-inside a b v =
-      moved-inside-at (pos (8 * i)) (pos (8 * j)) v (pointIn a b x y) (λ k. record { px = pos (sum x a i k); py = pos (sum y b j k) })
+      ap (insideAll (movedVertices (pos (8 * i)) (pos (8 * j)) v)) (λ k. record { px = pos (sum x a i k); py = pos (sum y b j k) })
+      ∙ moved-inside-all (pos (8 * i)) (pos (8 * j)) v (pointIn a b x y)
     where
       sum : (n o k : ℕ) → 8 * (n + k) + o ≡ 8 * n + o + 8 * k
       sum n o k = omega arith
