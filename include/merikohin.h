@@ -40,9 +40,9 @@
 #include <stdint.h>
 
 #define MERIKOHIN_VERSION_MAJOR 0
-#define MERIKOHIN_VERSION_MINOR 2
+#define MERIKOHIN_VERSION_MINOR 3
 #define MERIKOHIN_VERSION_PATCH 0
-#define MERIKOHIN_VERSION "0.2.0"
+#define MERIKOHIN_VERSION "0.3.0"
 
 /* The limits. */
 #define MERIKOHIN_PROGRAM_MOST 1024 /* words of a program */
@@ -53,6 +53,7 @@
 #define MERIKOHIN_HEIGHT_MOST 480   /* rows */
 #define MERIKOHIN_VERTEX_LEAST (-8192)
 #define MERIKOHIN_VERTEX_MOST 8191 /* eighths of a pixel */
+#define MERIKOHIN_VALUE_MOST 32767 /* a value at a vertex, from 0 */
 #define MERIKOHIN_REGISTERS 32
 
 /* The size number of a screen: its width a multiple of 16 from 16 to 640, its
@@ -77,7 +78,8 @@ enum merikohin_number {
     MERIKOHIN_SCREEN_NOT_SOUND = 5,
     MERIKOHIN_VERTEX_OUT_OF_RANGE = 6,
     MERIKOHIN_EDGE_OUT_OF_RANGE = 7,
-    MERIKOHIN_ROW_OUT_OF_RANGE = 8
+    MERIKOHIN_ROW_OUT_OF_RANGE = 8,
+    MERIKOHIN_NO_PLANE = 9
 };
 
 /* The halt numbers of a state. merikohin_halt_says has a sentence for each.
@@ -175,6 +177,18 @@ typedef struct merikohin_triangle {
     merikohin_plane depth, red, green, blue;
 } merikohin_triangle;
 
+/* A whole value at each of three vertices: a depth, or a part of a colour. */
+typedef struct merikohin_values {
+    int32_t r1, r2, r3;
+} merikohin_values;
+
+/* The answer to three vertices and a value at each: its number, and the plane
+ * through the three. */
+typedef struct merikohin_through {
+    uint32_t number;
+    merikohin_plane plane;
+} merikohin_through;
+
 /* The answer to a triangle: its number, how many pixels of the screen it
  * covered and how many of these were written. */
 typedef struct merikohin_drawn {
@@ -246,6 +260,20 @@ uint32_t merikohin_clear(uint8_t *ram, size_t ram_len, merikohin_screen s, uint1
 MERIKOHIN_MUST_USE
 merikohin_drawn merikohin_draw(uint8_t *ram, size_t ram_len, merikohin_screen s, merikohin_triangle t);
 
+/* Works out the plane through three values, one at each vertex of a triangle.
+ * The exact value at a pixel's centre is a fraction (Cramer's rule); the plane
+ * counts it in units of 1/65536. c is for pixel (0, 0), a and b are the steps
+ * to the right and down; each is rounded down, then c is raised by 1119. So at
+ * every pixel that the triangle covers, on any screen, the plane is above the
+ * exact value, and by at most 1119 units: its top half, which is what is drawn,
+ * is never below the least of the three values nor above the greatest.
+ * Answers 0 and the plane, or a plane of zeros with 6 (vertex number out of
+ * range), else 9 (a value outside 0 to 32767, a doubled area that is not
+ * positive, as of a triangle turned the other way, or c, a or b outside signed
+ * 32 bits). */
+MERIKOHIN_MUST_USE
+merikohin_through merikohin_plane_through(merikohin_vertices v, merikohin_values r);
+
 /* Tells whether a row can be read: answers 0 if merikohin_row would hand the
  * row back, or 3 (RAM too long), 5 (screen not sound) or 8 (row not below the
  * height), always the number that merikohin_row and merikohin_depth_row answer
@@ -308,6 +336,8 @@ static inline const char *merikohin_says(uint32_t number)
     case MERIKOHIN_VERTEX_OUT_OF_RANGE: return "a vertex number is outside -8192..8191";
     case MERIKOHIN_EDGE_OUT_OF_RANGE: return "an edge value at some pixel of the screen is outside signed 32 bits";
     case MERIKOHIN_ROW_OUT_OF_RANGE: return "the row is not below the height";
+    case MERIKOHIN_NO_PLANE:
+        return "a value is outside 0..32767, the doubled area is not positive, or c, a or b is outside signed 32 bits";
     default: return "no call answers this number";
     }
 }
@@ -365,6 +395,13 @@ MERIKOHIN_HAS(merikohin_triangle, depth, 24)
 MERIKOHIN_HAS(merikohin_triangle, red, 36)
 MERIKOHIN_HAS(merikohin_triangle, green, 48)
 MERIKOHIN_HAS(merikohin_triangle, blue, 60)
+MERIKOHIN_ASSERT(sizeof(merikohin_values) == 12)
+MERIKOHIN_HAS(merikohin_values, r1, 0)
+MERIKOHIN_HAS(merikohin_values, r2, 4)
+MERIKOHIN_HAS(merikohin_values, r3, 8)
+MERIKOHIN_ASSERT(sizeof(merikohin_through) == 16)
+MERIKOHIN_HAS(merikohin_through, number, 0)
+MERIKOHIN_HAS(merikohin_through, plane, 4)
 MERIKOHIN_ASSERT(sizeof(merikohin_drawn) == 12)
 MERIKOHIN_HAS(merikohin_drawn, number, 0)
 MERIKOHIN_HAS(merikohin_drawn, covered, 4)

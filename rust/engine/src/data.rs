@@ -78,6 +78,21 @@ impl From<[i32; 6]> for Vertices {
     }
 }
 
+/// A whole value at each of three vertices: a depth, or a part of a colour.
+#[repr(C)]
+#[derive(Clone, Copy, Debug, Default, PartialEq, Eq, Hash)]
+pub struct Values {
+    pub r1: i32,
+    pub r2: i32,
+    pub r3: i32,
+}
+
+impl From<[i32; 3]> for Values {
+    fn from([r1, r2, r3]: [i32; 3]) -> Values {
+        Values { r1, r2, r3 }
+    }
+}
+
 /// Three vertices, and the planes of the depth (top 16 bits), red (bits 16 to
 /// 20), green (bits 16 to 21) and blue (bits 16 to 20). Planes left to the
 /// default are 0: the nearest depth, black.

@@ -30,7 +30,7 @@ mod data;
 pub mod raw;
 mod refusal;
 
-pub use data::{Plane, Screen, State, Tree, Triangle, Vertices};
+pub use data::{Plane, Screen, State, Tree, Triangle, Values, Vertices};
 pub use refusal::{Halt, Refusal};
 
 /// The directory the library was linked from: `target/staticlib`, or what
@@ -51,6 +51,8 @@ pub const HEIGHT_MOST: u32 = 480;
 pub const VERTEX_LEAST: i32 = -8192;
 /// The greatest vertex number.
 pub const VERTEX_MOST: i32 = 8191;
+/// The greatest value at a vertex; the least is 0.
+pub const VALUE_MOST: i32 = 32767;
 
 /// What a triangle did: pixels covered, and how many of these were written.
 #[derive(Clone, Copy, Debug, PartialEq, Eq)]
@@ -78,7 +80,7 @@ pub struct Stepped {
 fn done(number: u32) -> Result<(), Refusal> {
     match number {
         0 => Ok(()),
-        _ => Err(Refusal::from_number(number).expect("the library answers 0 to 8")),
+        _ => Err(Refusal::from_number(number).expect("the library answers 0 to 9")),
     }
 }
 
@@ -111,6 +113,25 @@ pub fn clear(ram: &mut [u8], screen: Screen, colour: u16, depth: u16) -> Result<
 pub fn draw(ram: &mut [u8], screen: Screen, triangle: Triangle) -> Result<Drawn, Refusal> {
     let drawn = raw::draw(ram, screen, triangle);
     done(drawn.number).map(|()| Drawn { covered: drawn.covered, written: drawn.written })
+}
+
+/// The plane through three values, one at each vertex of a triangle. At every
+/// pixel that the triangle covers it is above the exact value, which is a
+/// fraction, and by at most 1,119 units of 1/65536, so its top half is never
+/// below the least of the three values nor above the greatest. Refuses with 6
+/// and 9.
+///
+/// ```
+/// use merikohin::{plane_through, Plane, Refusal};
+/// let vertices = [4, 4, 36, 4, 4, 36].into(); // the centres of pixels (0, 0), (4, 0) and (0, 4)
+/// let plane = plane_through(vertices, [10, 30, 20].into())?;
+/// assert_eq!(plane, Plane { c: (10 << 16) + 1119, a: 5 << 16, b: (10 << 16) / 4 });
+/// assert_eq!(plane_through(vertices, [10, 30, 32768].into()), Err(Refusal::NoPlane));
+/// # Ok::<(), Refusal>(())
+/// ```
+pub fn plane_through(vertices: Vertices, values: Values) -> Result<Plane, Refusal> {
+    let through = raw::plane_through(vertices, values);
+    done(through.number).map(|()| through.plane)
 }
 
 /// Whether a row can be read: what [`row`] and [`depth_row`] refuse, this
@@ -225,6 +246,7 @@ mod tests {
     fn laid_out_as_c() {
         assert_eq!((size_of::<Screen>(), size_of::<Plane>(), size_of::<Vertices>()), (12, 12, 24));
         assert_eq!((size_of::<Triangle>(), size_of::<raw::Drawn>(), size_of::<raw::RowPart>()), (72, 12, 24));
+        assert_eq!((size_of::<Values>(), size_of::<raw::Through>()), (12, 16));
         assert_eq!((size_of::<Tree>(), size_of::<State>(), size_of::<raw::Ran>()), (108, 272, 288));
         assert_eq!(size_of::<raw::Stepped>(), 280);
         let state = fresh();
@@ -244,7 +266,7 @@ mod tests {
         for refusal in Refusal::ALL {
             assert!(rules.contains(&format!("| {} | {refusal} |", refusal.number())), "{refusal}");
             assert!(header.contains(&format!("return \"{refusal}\";")), "{refusal}");
-            assert!(header.contains(&format!(" = {},", refusal.number())) || refusal.number() == 8);
+            assert!(header.contains(&format!(" = {},", refusal.number())) || refusal.number() == 9);
         }
         for halt in Halt::ALL {
             assert!(rules.contains(&format!("| {} | {halt} |", halt.number())), "{halt}");
@@ -257,6 +279,7 @@ mod tests {
             ("WIDTH_MOST", WIDTH_MOST.into()),
             ("HEIGHT_MOST", HEIGHT_MOST.into()),
             ("VERTEX_MOST", VERTEX_MOST.into()),
+            ("VALUE_MOST", VALUE_MOST.into()),
         ] {
             assert!(header.contains(&format!("#define MERIKOHIN_{name} {value}")), "{name}");
         }
@@ -266,7 +289,7 @@ mod tests {
     #[test]
     fn numbers_there_and_back() {
         for number in 0..100 {
-            assert_eq!(Refusal::from_number(number).map_or(0, Refusal::number), if number < 9 { number } else { 0 });
+            assert_eq!(Refusal::from_number(number).map_or(0, Refusal::number), if number < 10 { number } else { 0 });
             let halts = (11..18).contains(&number);
             assert_eq!(Halt::from_number(number).map_or(0, Halt::number), if halts { number } else { 0 });
         }

@@ -2,7 +2,7 @@
 //! was refused. For whoever wants every field of every answer; the functions of
 //! the crate's root are made of these.
 
-use crate::{Screen, State, Triangle};
+use crate::{Plane, Screen, State, Triangle, Values, Vertices};
 
 /// The answer to a triangle: its number, pixels covered, pixels written.
 #[repr(C)]
@@ -11,6 +11,15 @@ pub struct Drawn {
     pub number: u32,
     pub covered: u32,
     pub written: u32,
+}
+
+/// The answer to three vertices and a value at each: its number, and the plane
+/// through the three. Refused, the plane is of zeros.
+#[repr(C)]
+#[derive(Clone, Copy, Debug, PartialEq, Eq)]
+pub struct Through {
+    pub number: u32,
+    pub plane: Plane,
 }
 
 /// The answer to a row or a depth row, in places: the row's own bytes are
@@ -44,12 +53,13 @@ pub struct Stepped {
 }
 
 mod library {
-    use super::{Drawn, Ran, RowPart, Screen, State, Stepped, Triangle};
+    use super::{Drawn, Ran, RowPart, Screen, State, Stepped, Through, Triangle, Values, Vertices};
 
     #[link(name = "merikohin", kind = "static")]
     extern "C" {
         pub fn merikohin_clear(ram: *mut u8, ram_len: usize, s: Screen, colour: u16, depth: u16) -> u32;
         pub fn merikohin_draw(ram: *mut u8, ram_len: usize, s: Screen, t: Triangle) -> Drawn;
+        pub fn merikohin_plane_through(v: Vertices, r: Values) -> Through;
         pub fn merikohin_row_check(ram: *const u8, ram_len: usize, s: Screen, row: u32) -> u32;
         pub fn merikohin_row(ram: *const u8, ram_len: usize, s: Screen, row: u32) -> RowPart;
         pub fn merikohin_depth_row(ram: *const u8, ram_len: usize, s: Screen, row: u32) -> RowPart;
@@ -88,6 +98,13 @@ pub fn clear(ram: &mut [u8], screen: Screen, colour: u16, depth: u16) -> u32 {
 pub fn draw(ram: &mut [u8], screen: Screen, triangle: Triangle) -> Drawn {
     // SAFETY: the slice is lent whole, for the length of the call.
     unsafe { library::merikohin_draw(ram.as_mut_ptr(), ram.len(), screen, triangle) }
+}
+
+/// `merikohin_plane_through`: 0, 6 or 9.
+#[must_use]
+pub fn plane_through(vertices: Vertices, values: Values) -> Through {
+    // SAFETY: nothing is lent.
+    unsafe { library::merikohin_plane_through(vertices, values) }
 }
 
 /// `merikohin_row_check`: 0, 3, 5 or 8.

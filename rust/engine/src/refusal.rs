@@ -22,11 +22,12 @@ pub enum Refusal {
     VertexOutOfRange = 6,
     EdgeOutOfRange = 7,
     RowOutOfRange = 8,
+    NoPlane = 9,
 }
 
 impl Refusal {
     /// All of them, from the lowest.
-    pub const ALL: [Refusal; 8] = [
+    pub const ALL: [Refusal; 9] = [
         Refusal::ProgramTooLong,
         Refusal::MemoryNot1024,
         Refusal::RamTooLong,
@@ -35,6 +36,7 @@ impl Refusal {
         Refusal::VertexOutOfRange,
         Refusal::EdgeOutOfRange,
         Refusal::RowOutOfRange,
+        Refusal::NoPlane,
     ];
 
     /// The number, as C has it.
@@ -62,6 +64,9 @@ impl Refusal {
             Refusal::VertexOutOfRange => "a vertex number is outside -8192..8191",
             Refusal::EdgeOutOfRange => "an edge value at some pixel of the screen is outside signed 32 bits",
             Refusal::RowOutOfRange => "the row is not below the height",
+            Refusal::NoPlane => {
+                "a value is outside 0..32767, the doubled area is not positive, or c, a or b is outside signed 32 bits"
+            }
         }
     }
 }
