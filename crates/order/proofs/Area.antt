@@ -11,6 +11,7 @@ use lib.Signed.{_≤ℤ_, leZ-yes, ≤ℤ-refl}
 use Rattle.ints.proofs.Poly.{Exp, var, con, neg, _⊕_, _⊖_, _⊗_, solve}
 use Rattle.ints.proofs.Order.{le-to, eq-to, eq-of}
 use Rattle.rules.specs.declared.Screen.{Screen}
+use Rattle.rules.specs.declared.Vertices.{Vertices}
 use Rattle.rules.specs.declared.Triangle.{Triangle}
 use Rattle.rules.specs.Sizes.{width, height}
 use Rattle.rules.specs.Triangles.{Point, edge1, edge2, edge3, edgeValue, positive, insideAll, sample, covered, coveredPixels, doubledArea}
@@ -21,16 +22,14 @@ use Rattle.order.specs.Sides.{turnedTwin}
 use Rattle.order.proofs.Sides.{inside-covered}
 
 -- the values of a triangle's edges sum to its doubled area
-module _ (t : Triangle) (p : Point) where
+module _ (v : Vertices) (p : Point) where
   abbrev ρ : List ℤ
-  ρ = let v = t .vertices in v .x1 ∷ v .y1 ∷ v .x2 ∷ v .y2 ∷ v .x3 ∷ v .y3 ∷ p .px ∷ p .py ∷ []
+  ρ = v .x1 ∷ v .y1 ∷ v .x2 ∷ v .y2 ∷ v .x3 ∷ v .y3 ∷ p .px ∷ p .py ∷ []
 
   abbrev value : Exp → Exp → Exp → Exp → Exp
   value x1 y1 x2 y2 = (var 7 ⊖ y1) ⊗ (x2 ⊖ x1) ⊖ (var 6 ⊖ x1) ⊗ (y2 ⊖ y1)
 
-  pub values-sum :
-      let v = t .vertices in
-      edgeValue (edge1 v) p +ℤ edgeValue (edge2 v) p +ℤ edgeValue (edge3 v) p ≡ doubledArea v
+  pub values-sum : edgeValue (edge1 v) p +ℤ edgeValue (edge2 v) p +ℤ edgeValue (edge3 v) p ≡ doubledArea v
   unfolding edgeValue doubledArea
   values-sum =
       solve ρ
@@ -60,7 +59,7 @@ module _ (t : Triangle) (p : Point) (h : insideAll (t .vertices) p ≡ true) whe
           let l2 = le-to σ (con (pos 0)) (var 1) (v .1) in
           let l3 = le-to σ (con (pos 0)) (var 2) (v .2) in
           let d = le-to σ (var 3) (con (pos 0)) (not-positive (doubledArea (t .vertices)) e) in
-          let s = eq-to σ (var 0 ⊕ var 1 ⊕ var 2) (var 3) (values-sum t p) in
+          let s = eq-to σ (var 0 ⊕ var 1 ⊕ var 2) (var 3) (values-sum (t .vertices) p) in
           absurd (not-three-zeros (t .vertices) p h
           (eq-of σ (var 0) (con (pos 0)) (omega (arith, l1, l2, l3, d, s)))
           (eq-of σ (var 1) (con (pos 0)) (omega (arith, l1, l2, l3, d, s)))

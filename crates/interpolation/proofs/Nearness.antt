@@ -1,0 +1,95 @@
+-- The plane is above the exact value at every pixel of the largest screen, and by at most 1,119 units: each of the three numbers loses less
+-- than one by rounding, c once, a once for each column and b once for each row, 1 + 639 + 479 times at most, and c is raised by as much.
+use Prim.Native.Nat.{ℕ, zero, suc, _+_, _*_, _≤_, _<_}
+use mathlib.Core.Path.{_≡_, refl, sym, _∙_, ap, ap₂, subst}
+use mathlib.Core.List.{List, [], _∷_}
+use native.Mathlib.Nat.{mul-le-mul}
+use native.Mathlib.Omega.{arith}
+use lib.IntN.{ℤ, pos, negsuc, _+ℤ_, _*ℤ_}
+use lib.Signed.{_≤ℤ_, _<ℤ_}
+use Rattle.ints.proofs.Poly.{var, con, _⊕_, _⊖_, _⊗_, solve}
+use Rattle.ints.proofs.Order.{is-pos, is-lt, lt-is, le-of, lt-of, lt-to, eq-to}
+use Rattle.rules.specs.declared.Vertices.{Vertices}
+use Rattle.rules.specs.Triangles.{sample, doubledArea}
+use Rattle.interpolation.specs.declared.Values.{Values}
+use Rattle.interpolation.specs.Interpolation.{numeratorA, numeratorB, numerator, inUnits, raise, roundedDown}
+use Rattle.interpolation.specs.Interpolation.{throughA, throughB, throughC, planeThrough}
+use Rattle.interpolation.specs.Nearness.{valueAt, planeTimes, exactTimes, Near}
+use Rattle.interpolation.proofs.Cramer.{stepped}
+use Rattle.interpolation.proofs.Rounding.{rounded-down, Left, left-over}
+
+-- what is lost at pixel (x, y), times the divisor
+lost : (d : ℤ) (m n o x y : ℕ)
+    → pos m <ℤ d
+    → pos n <ℤ d
+    → pos o <ℤ d
+    → x < 640
+    → y < 480
+    → pos (m + n * x + o * y) <ℤ (d *ℤ raise)
+lost (negsuc k) m n o x y hm hn ho hx hy = absurd (hm .lt)
+lost (pos zero) m n o x y hm hn ho hx hy = absurd (omega (arith, lt-is (is-pos m) (is-pos 0) hm))
+lost (pos (suc k)) m n o x y hm hn ho hx hy =
+    let hm′ = lt-is (is-pos m) (is-pos (suc k)) hm in
+    let hn′ = lt-is (is-pos n) (is-pos (suc k)) hn in
+    let ho′ = lt-is (is-pos o) (is-pos (suc k)) ho in
+    let p : n * x ≤ k * 639 = mul-le-mul (omega (arith, hn′)) (omega arith) in
+    let q : o * y ≤ k * 479 = mul-le-mul (omega (arith, ho′)) (omega arith) in
+    is-lt (is-pos (m + n * x + o * y)) (is-pos (suc k * 1119)) (omega (arith, hm′, p, q))
+
+-- three quotients rounded down, and the plane that they make
+module _ (d n a b : ℤ) (x y : ℕ) {q p s : ℤ} (l : Left (inUnits n) d q) (i : Left (inUnits (pos 8 *ℤ a)) d p) (j : Left (inUnits (pos 8 *ℤ b)) d s) where
+  summed : inUnits (n +ℤ pos 8 *ℤ a *ℤ pos x +ℤ pos 8 *ℤ b *ℤ pos y) +ℤ d *ℤ raise
+      ≡ d *ℤ (q +ℤ raise +ℤ p *ℤ pos x +ℤ s *ℤ pos y) +ℤ pos (l .over + i .over * x + j .over * y)
+  summed =
+      solve (n ∷ a ∷ b ∷ pos x ∷ pos y ∷ d ∷ [])
+      (con (pos 65536) ⊗ (var 0 ⊕ con (pos 8) ⊗ var 1 ⊗ var 3 ⊕ con (pos 8) ⊗ var 2 ⊗ var 4) ⊕ var 5 ⊗ con (pos 1119))
+      (con (pos 65536) ⊗ var 0 ⊕ con (pos 65536) ⊗ (con (pos 8) ⊗ var 1) ⊗ var 3
+      ⊕ con (pos 65536) ⊗ (con (pos 8) ⊗ var 2) ⊗ var 4 ⊕ var 5 ⊗ con (pos 1119))
+      tt
+      ∙ ap (λ (z : ℤ). z +ℤ d *ℤ raise)
+      (ap₂ _+ℤ_ (ap₂ _+ℤ_ (l .whole) (ap (λ (z : ℤ). z *ℤ pos x) (i .whole))) (ap (λ (z : ℤ). z *ℤ pos y) (j .whole)))
+      ∙ solve (d ∷ q ∷ p ∷ s ∷ pos (l .over) ∷ pos (i .over) ∷ pos (j .over) ∷ pos x ∷ pos y ∷ [])
+      (var 0 ⊗ var 1 ⊕ var 4 ⊕ (var 0 ⊗ var 2 ⊕ var 5) ⊗ var 7 ⊕ (var 0 ⊗ var 3 ⊕ var 6) ⊗ var 8 ⊕ var 0 ⊗ con (pos 1119))
+      (var 0 ⊗ (var 1 ⊕ con (pos 1119) ⊕ var 2 ⊗ var 7 ⊕ var 3 ⊗ var 8) ⊕ (var 4 ⊕ var 5 ⊗ var 7 ⊕ var 6 ⊗ var 8))
+      tt
+
+module _ (v : Vertices) (r : Values) (h : pos 0 <ℤ doubledArea v) where
+  abbrev pub Rest : ℤ → Type 0
+  Rest n = Left (inUnits n) (doubledArea v) (roundedDown (inUnits n) (doubledArea v))
+
+  pub rest : (n : ℤ) → Rest n
+  rest n = left-over (rounded-down h)
+
+  abbrev c-rest : Rest (numerator v r (sample 0 0))
+  c-rest = rest (numerator v r (sample 0 0))
+
+  abbrev a-rest : Rest (pos 8 *ℤ numeratorA v r)
+  a-rest = rest (pos 8 *ℤ numeratorA v r)
+
+  abbrev b-rest : Rest (pos 8 *ℤ numeratorB v r)
+  b-rest = rest (pos 8 *ℤ numeratorB v r)
+
+  module _ (x y : ℕ) where
+    abbrev loss : ℕ
+    loss = c-rest .over + a-rest .over * x + b-rest .over * y
+
+    -- the plane, and what was lost, are the exact value raised
+    pub plane-and-loss :
+        exactTimes v r x y +ℤ doubledArea v *ℤ raise ≡ planeTimes v (planeThrough v r) x y +ℤ pos loss
+    unfolding planeThrough throughA throughB throughC
+    plane-and-loss =
+        ap (λ (z : ℤ). inUnits z +ℤ doubledArea v *ℤ raise) (stepped v r x y)
+        ∙ summed (doubledArea v) (numerator v r (sample 0 0)) (numeratorA v r) (numeratorB v r) x y c-rest a-rest b-rest
+
+    pub near : x < 640 → y < 480 → Near v r (planeThrough v r) x y
+    near hx hy =
+        let ρ : List ℤ =
+        exactTimes v r x y ∷ planeTimes v (planeThrough v r) x y ∷ (doubledArea v *ℤ raise) ∷ pos loss ∷ [] in
+        let e = eq-to ρ (var 0 ⊕ var 2) (var 1 ⊕ var 3) plane-and-loss in
+        let l =
+        lt-to ρ (var 3) (var 2)
+        (lost (doubledArea v) (c-rest .over) (a-rest .over) (b-rest .over) x y (c-rest .few) (a-rest .few) (b-rest .few) hx hy) in
+        record {
+          above = lt-of ρ (var 0) (var 1) (omega (arith, e, l));
+          at-most = le-of ρ (var 1) (var 0 ⊕ var 2) (omega (arith, e));
+        }
