@@ -104,10 +104,10 @@ module _ (v : Vertices) (r : Values) where
       solve (numbers v r) aE ((var 7 ⊖ var 6) ⊗ (var 5 ⊖ var 1) ⊖ (var 8 ⊖ var 6) ⊗ (var 3 ⊖ var 1)) tt
 
   pub b-by-differences :
-      numeratorB v r ≡ (r .r3 -ℤ r .r1) *ℤ (v .x2 -ℤ v .x1) -ℤ (r .r2 -ℤ r .r1) *ℤ (v .x3 -ℤ v .x1)
+      numeratorB v r ≡ (v .x2 -ℤ v .x1) *ℤ (r .r3 -ℤ r .r1) -ℤ (v .x3 -ℤ v .x1) *ℤ (r .r2 -ℤ r .r1)
   unfolding numeratorB
   b-by-differences =
-      solve (numbers v r) bE ((var 8 ⊖ var 6) ⊗ (var 2 ⊖ var 0) ⊖ (var 7 ⊖ var 6) ⊗ (var 4 ⊖ var 0)) tt
+      solve (numbers v r) bE ((var 2 ⊖ var 0) ⊗ (var 8 ⊖ var 6) ⊖ (var 4 ⊖ var 0) ⊗ (var 7 ⊖ var 6)) tt
 
   pub by-differences : (p : Point)
       → numerator v r p

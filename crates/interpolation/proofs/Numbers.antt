@@ -35,7 +35,7 @@ module _ (v : Vertices) (r : Values) where
   told true true true true true false b p q u h i j k = a-outside j
   told true true true true true true false p q u h i j k = b-outside k
   told true true true true true true true p q u h i j k = λ w.
-    record { vertices = w; first = p; second = q; third = u; area = h; c = i; a = j; b = k }
+      record { vertices = w; first = p; second = q; third = u; area = h; c = i; a = j; b = k }
 
   decided : Says (hasNoPlane v r)
   unfolding hasNoPlane valuesInRange planeInRange planeThrough

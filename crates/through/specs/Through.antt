@@ -2,9 +2,10 @@
 use Prim.Native.Nat.{ℕ, _≤_}
 use mathlib.Core.Path.{_≡_}
 use mathlib.Core.Bool.{true}
-use lib.IntN.{ℤ, pos, natAbs}
+use lib.IntN.{ℤ, pos, natAbs, _-ℤ_, _*ℤ_}
 use lib.Signed.{_<ℤ_}
 use Rattle.rules.specs.declared.Vertices.{Vertices}
+use Rattle.rules.specs.Triangles.{doubledArea}
 use Rattle.rules.specs.Numbers.{verticesInRange}
 use Rattle.interpolation.specs.declared.Values.{Values}
 use Rattle.interpolation.specs.declared.Through.{Through}
@@ -13,6 +14,21 @@ use Rattle.interpolation.specs.Interpolation.{valuesInRange, zeros}
 pub record InRange (v : Vertices) (r : Values) : Type 0 where
   pub vertices : verticesInRange v ≡ true
   pub values : valuesInRange r ≡ true
+
+-- and the area is positive
+pub record Solvable (v : Vertices) (r : Values) : Type 0 where
+  pub in-range : InRange v r
+  pub area : pos 0 <ℤ doubledArea v
+
+-- three numbers that are vertex numbers or values in range, or at least no larger
+pub record Small (a b c : ℤ) : Type 0 where
+  pub first : natAbs a ≤ 32767
+  pub second : natAbs b ≤ 32767
+  pub third : natAbs c ≤ 32767
+
+-- twice the area of the triangle (p1, q1), (p2, q2), (p3, q3)
+abbrev pub cross : ℤ → ℤ → ℤ → ℤ → ℤ → ℤ → ℤ
+cross p1 p2 p3 q1 q2 q3 = (p2 -ℤ p1) *ℤ (q3 -ℤ q1) -ℤ (p3 -ℤ p1) *ℤ (q2 -ℤ q1)
 
 -- a positive divisor, and a number well inside 64 bits
 pub record Divides (n d : ℤ) : Type 0 where

@@ -6,13 +6,11 @@ use interpolation::Values;
 use rules::Plane;
 use rules::Vertices;
 ghost use mathlib.Core.Path.{_≡_};
-ghost use mathlib.Core.Bool.{true, _&&_};
-ghost use lib.IntN.{pos};
-ghost use lib.Signed.{_<ℤ_};
-ghost use Rattle.rules.specs.Triangles.{doubledArea, positive, sample};
+ghost use mathlib.Core.Bool.{true};
+ghost use Rattle.rules.specs.Triangles.{doubledArea, sample};
 ghost use Rattle.rules.specs.Numbers.{inSigned32, verticesInRange};
-ghost use Rattle.interpolation.specs.Interpolation.{PassesThrough, numerator, numeratorA, numeratorB, roundedDown, valueInRange, valuesInRange};
-ghost use Rattle.through.specs.Through.{Refuses, InRange, Divides, WorkedOut};
+ghost use Rattle.interpolation.specs.Interpolation.{PassesThrough, numerator, numeratorA, numeratorB, roundedDown, throughA, throughB, throughC, valueInRange, valuesInRange};
+ghost use Rattle.through.specs.Through.{Divides, InRange, Refuses, Small, Solvable, cross};
 
 // How much c is raised: as much as three roundings can lose at the last pixel, 1 + 639 + 479.
 const RAISE: i64 = 1119;
@@ -31,26 +29,35 @@ fn values_in_range(r: Values) -> bool
     value_in_range(r.r1) & value_in_range(r.r2) & value_in_range(r.r3)
 }
 
+// What twice an area, A's numerator and B's have in common: two products of differences from the first of three.
+fn cross(p1: i32, p2: i32, p3: i32, q1: i32, q2: i32, q3: i32) -> i64
+    requires { ⌜ (Small p1 p2 p3) × (Small q1 q2 q3) ⌝ }
+    ensures { λ z. ⌜ z ≡ cross p1 p2 p3 q1 q2 q3 ⌝ }
+{
+    let p = p1 as i64;
+    let q = q1 as i64;
+    (p2 as i64 - p) * (q3 as i64 - q) - (p3 as i64 - p) * (q2 as i64 - q)
+}
+
 fn doubled_area(v: Vertices) -> i64
     requires { ⌜ verticesInRange v ≡ true ⌝ }
     ensures { λ d. ⌜ d ≡ doubledArea v ⌝ }
 {
-    (v.x2 as i64 - v.x1 as i64) * (v.y3 as i64 - v.y1 as i64) - (v.x3 as i64 - v.x1 as i64) * (v.y2 as i64 - v.y1 as i64)
+    cross(v.x1, v.x2, v.x3, v.y1, v.y2, v.y3)
 }
 
-// By differences from the first vertex, two products.
 fn numerator_a(v: Vertices, r: Values) -> i64
     requires { ⌜ InRange v r ⌝ }
     ensures { λ n. ⌜ n ≡ numeratorA v r ⌝ }
 {
-    (r.r2 as i64 - r.r1 as i64) * (v.y3 as i64 - v.y1 as i64) - (r.r3 as i64 - r.r1 as i64) * (v.y2 as i64 - v.y1 as i64)
+    cross(r.r1, r.r2, r.r3, v.y1, v.y2, v.y3)
 }
 
 fn numerator_b(v: Vertices, r: Values) -> i64
     requires { ⌜ InRange v r ⌝ }
     ensures { λ n. ⌜ n ≡ numeratorB v r ⌝ }
 {
-    (r.r3 as i64 - r.r1 as i64) * (v.x2 as i64 - v.x1 as i64) - (r.r2 as i64 - r.r1 as i64) * (v.x3 as i64 - v.x1 as i64)
+    cross(v.x1, v.x2, v.x3, r.r1, r.r2, r.r3)
 }
 
 // At the sample point of pixel (0, 0): the first value, and the way there from the first vertex.
@@ -63,17 +70,17 @@ fn numerator(v: Vertices, r: Values) -> i64
     r.r1 as i64 * doubled_area(v) + numerator_a(v, r) * right + numerator_b(v, r) * down
 }
 
-// A quotient is rounded toward zero: one too large where the rest is below zero.
+// A quotient is rounded toward zero, so one below zero is taken of what lies as far on the other side of the middle between 0 and -1.
 fn rounded_down(n: i64, d: i64) -> i64
     requires { ⌜ Divides n d ⌝ }
     ensures { λ q. ⌜ q ≡ roundedDown n d ⌝ }
 {
-    let q = n / d;
-    if n % d < 0 {
-        q - 1
-    } else {
-        q
+    let m = if n < 0 { -1 - n } else { n };
+    let q = m / d;
+    if n < 0 {
+        return -1 - q;
     }
+    q
 }
 
 fn in_signed32(z: i64) -> bool
@@ -91,26 +98,45 @@ fn refused(number: u32) -> Through
     }
 }
 
+fn through_c(v: Vertices, r: Values) -> i64
+    requires { ⌜ Solvable v r ⌝ }
+    ensures { λ c. ⌜ c ≡ throughC v r ⌝ }
+{
+    rounded_down(65536 * numerator(v, r), doubled_area(v)) + RAISE
+}
+
+fn through_a(v: Vertices, r: Values) -> i64
+    requires { ⌜ Solvable v r ⌝ }
+    ensures { λ a. ⌜ a ≡ throughA v r ⌝ }
+{
+    rounded_down(65536 * (8 * numerator_a(v, r)), doubled_area(v))
+}
+
+fn through_b(v: Vertices, r: Values) -> i64
+    requires { ⌜ Solvable v r ⌝ }
+    ensures { λ b. ⌜ b ≡ throughB v r ⌝ }
+{
+    rounded_down(65536 * (8 * numerator_b(v, r)), doubled_area(v))
+}
+
 // The three numbers, or 9 where one does not fit.
 fn worked_out(v: Vertices, r: Values) -> Through
-    requires { ⌜ (InRange v r) × (positive (doubledArea v) ≡ true) ⌝ }
+    requires { ⌜ Solvable v r ⌝ }
     ensures { λ t. ⌜ PassesThrough v r t ⌝ }
 {
-    let d = doubled_area(v);
-    let c = rounded_down(65536 * numerator(v, r), d) + RAISE;
-    let a = rounded_down(65536 * (8 * numerator_a(v, r)), d);
-    let b = rounded_down(65536 * (8 * numerator_b(v, r)), d);
-    if in_signed32(c) & in_signed32(a) & in_signed32(b) {
-        Through {
-            number: 0,
-            plane: Plane {
-                c: c as i32,
-                a: a as i32,
-                b: b as i32,
-            },
-        }
-    } else {
-        refused(9)
+    let c = through_c(v, r);
+    let a = through_a(v, r);
+    let b = through_b(v, r);
+    if !(in_signed32(c) & in_signed32(a) & in_signed32(b)) {
+        return refused(9);
+    }
+    Through {
+        number: 0,
+        plane: Plane {
+            c: c as i32,
+            a: a as i32,
+            b: b as i32,
+        },
     }
 }
 
