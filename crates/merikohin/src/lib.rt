@@ -2,6 +2,8 @@
 use border::LentState;
 use border::lent_state;
 use border::state_copied;
+use interpolation::Through;
+use interpolation::Values;
 use lends::LentRan;
 use lends::LentStepped;
 use lends::run_lent;
@@ -9,9 +11,11 @@ use reader::RowPart;
 use rules::Drawn;
 use rules::Screen;
 use rules::Triangle;
+use rules::Vertices;
 ghost use lib.ListN.{length};
 ghost use Rattle.rules.specs.Sizes.{colourAt, depthAt, pixel};
 ghost use Rattle.rules.specs.Calls.{Clears, Draws};
+ghost use Rattle.interpolation.specs.Interpolation.{PassesThrough};
 ghost use Rattle.reader.specs.Rows.{Checks, Locates};
 ghost use Rattle.lends.specs.Lends.{Lends, RunsLent, StepsLent, lent, runOutcome, stepOutcome};
 
@@ -27,6 +31,13 @@ pub extern "C" fn merikohin_draw(ram: &mut [u8], s: Screen, t: Triangle) -> Draw
     ensures { λ r. ⌜ Draws (now (ram .entry)) s t r (now (ram .exit)) ⌝ }
 {
     draw::triangles::draw(ram, s, t)
+}
+
+#[no_mangle]
+pub extern "C" fn merikohin_plane_through(v: Vertices, r: Values) -> Through
+    ensures { λ t. ⌜ PassesThrough v r t ⌝ }
+{
+    through::plane_through(v, r)
 }
 
 #[no_mangle]
