@@ -1,9 +1,9 @@
-/* The C baselines of drawing: the engine's rules, written the usual way. The
- * triangle's bounding box is clipped to the screen and each pixel of it is
- * tested by three edge values. There are two: "per pixel" works these out anew
- * at each pixel, as the rules state them and in 64 bits, where no bound on them
- * need be known; "stepped" keeps them up by addition, in 32 bits. They differ
- * in nothing else. */
+/* The C baselines of drawing and of planes: the engine's rules, written the
+ * usual way. The triangle's bounding box is clipped to the screen and each pixel
+ * of it is tested by three edge values. There are two: "per pixel" works these
+ * out anew at each pixel, as the rules state them and in 64 bits, where no bound
+ * on them need be known; "stepped" keeps them up by addition, in 32 bits. They
+ * differ in nothing else. Planes are worked out in one way. */
 #include "baseline.h"
 #include "sample.h"
 
@@ -45,6 +45,12 @@ struct box {
     int32_t left, right, top, bottom, width;
 };
 
+static int some_out_of_range(const merikohin_vertices *v)
+{
+    return out_of_range(v->x1) || out_of_range(v->y1) || out_of_range(v->x2) || out_of_range(v->y2) ||
+           out_of_range(v->x3) || out_of_range(v->y3);
+}
+
 /* The call's number; the box where it is 0. */
 static uint32_t look(size_t ram_len, merikohin_screen s, const merikohin_vertices *v, struct box *box)
 {
@@ -52,8 +58,7 @@ static uint32_t look(size_t ram_len, merikohin_screen s, const merikohin_vertice
         return 3;
     if (!sound(ram_len, s))
         return 5;
-    if (out_of_range(v->x1) || out_of_range(v->y1) || out_of_range(v->x2) || out_of_range(v->y2) ||
-        out_of_range(v->x3) || out_of_range(v->y3))
+    if (some_out_of_range(v))
         return 6;
     box->width = (int32_t)(s.size_number / 512) * 16;
     box->left = most(0, first_from(least(v->x1, least(v->x2, v->x3))));
@@ -165,4 +170,41 @@ uint32_t NAME(clear)(uint8_t *ram, size_t ram_len, merikohin_screen s, uint16_t 
         return 5;
     fill_screen(ram, s, colour, depth);
     return 0;
+}
+
+static int no_value(int32_t r)
+{
+    return r < 0 || r > MERIKOHIN_VALUE_MOST;
+}
+
+/* The quotient by a divisor above 0, rounded down. */
+static int64_t quotient(int64_t n, int64_t d)
+{
+    int64_t q = n / d;
+    return n % d < 0 ? q - 1 : q;
+}
+
+static int fits(int64_t n)
+{
+    return n >= INT32_MIN && n <= INT32_MAX;
+}
+
+merikohin_through NAME(plane_through)(merikohin_vertices v, merikohin_values r)
+{
+    enum { RAISE = 1119 };
+    if (some_out_of_range(&v))
+        return (merikohin_through){6, {0, 0, 0}};
+    if (no_value(r.r1) || no_value(r.r2) || no_value(r.r3))
+        return (merikohin_through){9, {0, 0, 0}};
+    /* Counted from the first vertex and its value, areas and steps fit 32 bits. */
+    int32_t x2 = v.x2 - v.x1, y2 = v.y2 - v.y1, x3 = v.x3 - v.x1, y3 = v.y3 - v.y1, r2 = r.r2 - r.r1, r3 = r.r3 - r.r1;
+    int64_t area = x2 * y3 - x3 * y2, right = r2 * y3 - r3 * y2, down = r3 * x2 - r2 * x3;
+    if (area <= 0)
+        return (merikohin_through){9, {0, 0, 0}};
+    int64_t first = r.r1 * area + right * (SAMPLE_OFFSET - v.x1) + down * (SAMPLE_OFFSET - v.y1);
+    int64_t c = quotient(65536 * first, area) + RAISE;
+    int64_t a = quotient(8 * 65536 * right, area), b = quotient(8 * 65536 * down, area);
+    if (!fits(c) || !fits(a) || !fits(b))
+        return (merikohin_through){9, {0, 0, 0}};
+    return (merikohin_through){0, {(int32_t)c, (int32_t)a, (int32_t)b}};
 }

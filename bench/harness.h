@@ -1,4 +1,4 @@
-/* The part that both of the benchmark's programs have: the command line, the
+/* The part that all of the benchmark's programs have: the command line, the
  * clock and the random numbers. A program gives the rest: its workloads, the
  * subjects that carry them out (C baselines and the engine, each with its own
  * memories), and what one pass of a subject is.
