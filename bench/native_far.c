@@ -26,6 +26,12 @@ void native_draw(uint8_t *ram, size_t ram_len, const void *screen, const void *t
         merikohin_draw(ram, ram_len, *(const merikohin_screen *)screen, *(const merikohin_triangle *)triangle);
 }
 
+void native_plane_through(const void *vertices, const void *values, void *through)
+{
+    *(merikohin_through *)through =
+        merikohin_plane_through(*(const merikohin_vertices *)vertices, *(const merikohin_values *)values);
+}
+
 void native_fresh(void *state)
 {
     merikohin_fresh(state);

@@ -16,6 +16,13 @@ merikohin_drawn merikohin_draw(uint8_t *ram, size_t ram_len, merikohin_screen s,
     return drawn;
 }
 
+merikohin_through merikohin_plane_through(merikohin_vertices v, merikohin_values r)
+{
+    merikohin_through through;
+    native_plane_through(&v, &r, &through);
+    return through;
+}
+
 merikohin_state merikohin_fresh(void)
 {
     merikohin_state state;
