@@ -45,6 +45,9 @@ static void answer(struct request *r)
     case DRAW:
         r->drawn = merikohin_draw(ram, r->ram_len, r->screen, r->triangle);
         break;
+    case PLANE_THROUGH:
+        r->through = merikohin_plane_through(r->vertices, r->values);
+        break;
     case ROW_CHECK:
         r->number = merikohin_row_check(ram, r->ram_len, r->screen, r->row);
         break;

@@ -98,6 +98,14 @@ merikohin_drawn merikohin_draw(uint8_t *ram, size_t ram_len, merikohin_screen s,
     return request->drawn;
 }
 
+merikohin_through merikohin_plane_through(merikohin_vertices v, merikohin_values r)
+{
+    lend(0, 0);
+    request->vertices = v, request->values = r;
+    hand_over(PLANE_THROUGH);
+    return request->through;
+}
+
 /* The RAM of the three row calls is only read; that it stays is checked here. */
 static void row_call(uint32_t call, const uint8_t *ram, size_t ram_len, merikohin_screen s, uint32_t row)
 {

@@ -6,17 +6,20 @@
 
 #include "merikohin.h"
 
-enum { CLEAR, DRAW, ROW_CHECK, ROW, DEPTH_ROW, FRESH, RUN, STEP };
+enum { CLEAR, DRAW, PLANE_THROUGH, ROW_CHECK, ROW, DEPTH_ROW, FRESH, RUN, STEP };
 
 struct request {
     uint64_t program_len, memory_len, ram_len, budget;
     merikohin_screen screen;
     merikohin_triangle triangle;
+    merikohin_vertices vertices;
+    merikohin_values values;
     merikohin_state state;
     uint32_t call, row;
     uint16_t colour, depth;
     uint32_t number;
     merikohin_drawn drawn;
+    merikohin_through through;
     merikohin_row_part part;
     merikohin_ran ran;
     merikohin_stepped stepped;
