@@ -1,6 +1,6 @@
 //! The plain data that calls take and answer, laid out as C has it.
 
-use crate::Halt;
+use crate::{Halt, Refusal};
 
 /// A screen: where its colours and its depths start in RAM, and the size number
 /// S, which [`Screen::new`] makes of a width and a height.
@@ -78,6 +78,40 @@ impl From<[i32; 6]> for Vertices {
     }
 }
 
+impl From<[Vertex; 3]> for Vertices {
+    fn from([v1, v2, v3]: [Vertex; 3]) -> Vertices {
+        Vertices { x1: v1.x, y1: v1.y, x2: v2.x, y2: v2.y, x3: v3.x, y3: v3.y }
+    }
+}
+
+/// A vertex and what is drawn there: its place in eighths of a pixel, its depth
+/// and its colour. [`Triangle::through`] makes a triangle of three.
+///
+/// The colour is red × 2048 + green × 32 + blue, as in [`crate::clear`], so it has
+/// no part out of range. The depth goes from 0, the nearest, to 32767
+/// ([`crate::VALUE_MOST`]), half as far as that of a clear.
+#[derive(Clone, Copy, Debug, Default, PartialEq, Eq, Hash)]
+pub struct Vertex {
+    pub x: i32,
+    pub y: i32,
+    pub depth: u16,
+    pub colour: u16,
+}
+
+impl Vertex {
+    /// What a triangle's four planes have here, in their order: depth, red (0 to
+    /// 31), green (0 to 63) and blue (0 to 31).
+    ///
+    /// ```
+    /// let orange = merikohin::Vertex { x: 0, y: 0, depth: 100, colour: 31 * 2048 + 40 * 32 + 1 };
+    /// assert_eq!(orange.values(), [100, 31, 40, 1]);
+    /// ```
+    #[must_use]
+    pub fn values(self) -> [i32; 4] {
+        [self.depth, self.colour >> 11, self.colour >> 5 & 63, self.colour & 31].map(i32::from)
+    }
+}
+
 /// A whole value at each of three vertices: a depth, or a part of a colour.
 #[repr(C)]
 #[derive(Clone, Copy, Debug, Default, PartialEq, Eq, Hash)]
@@ -104,6 +138,49 @@ pub struct Triangle {
     pub red: Plane,
     pub green: Plane,
     pub blue: Plane,
+}
+
+impl Triangle {
+    /// The triangle of three vertices, each with its depth and its colour: its four
+    /// planes are those of [`crate::plane_through`]. At every pixel that it covers,
+    /// the depth and each part of the colour are between the least and the
+    /// greatest of the three vertices', so no colour wraps round. They are the
+    /// exact values rounded down; one that is at most 1119/65536 below a whole
+    /// number may be that number.
+    ///
+    /// The vertices go round clockwise, as the screen is seen; a triangle turned
+    /// the other way, which would be drawn as nothing, is refused here.
+    ///
+    /// Refuses with 6, and with 9 where a depth is above 32767, where the vertices
+    /// go round the other way or are on one line, and where the depth or the
+    /// colour changes too steeply: a plane's three numbers have 32 bits each, and
+    /// c is the value carried on to pixel (0, 0).
+    ///
+    /// ```
+    /// use merikohin::{Refusal, Screen, Triangle, Vertex};
+    /// let mut ram = [0; 64];
+    /// let screen = Screen::new(0, 32, 16, 1);
+    /// merikohin::clear(&mut ram, screen, 0, 65535)?;
+    /// let (dark, light) = (0, 31); // two shades of blue
+    /// let shaded = [
+    ///     Vertex { x: 0, y: 0, depth: 100, colour: dark },
+    ///     Vertex { x: 64, y: 0, depth: 900, colour: light },
+    ///     Vertex { x: 0, y: 64, depth: 100, colour: dark },
+    /// ];
+    /// merikohin::draw(&mut ram, screen, Triangle::through(shaded)?)?;
+    /// let blues: Vec<u8> = merikohin::row(&ram, screen, 0)?.chunks(2).map(|colour| colour[1]).collect();
+    /// assert_eq!(blues[..8], [1, 5, 9, 13, 17, 21, 25, 0]); // the last pixel's centre is on the edge, outside
+    ///
+    /// let [a, b, c] = shaded;
+    /// assert_eq!(Triangle::through([a, c, b]), Err(Refusal::NoPlane));
+    /// # Ok::<(), Refusal>(())
+    /// ```
+    pub fn through(vertices: [Vertex; 3]) -> Result<Triangle, Refusal> {
+        let [first, second, third] = vertices.map(Vertex::values);
+        let corners = Vertices::from(vertices);
+        let plane = |k: usize| crate::plane_through(corners, [first[k], second[k], third[k]].into());
+        Ok(Triangle { vertices: corners, depth: plane(0)?, red: plane(1)?, green: plane(2)?, blue: plane(3)? })
+    }
 }
 
 /// A tree: where its first leaf stands, and for each of its sixteen leaves the

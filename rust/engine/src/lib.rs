@@ -8,17 +8,14 @@
 //! asked of the caller: every value of every argument is allowed.
 //!
 //! ```
-//! use merikohin::{Plane, Screen, Triangle};
+//! use merikohin::{Screen, Triangle, Vertex};
 //!
 //! # fn main() -> Result<(), merikohin::Refusal> {
 //! let mut ram = [0; 256]; // lent to each call
 //! let screen = Screen::new(0, 128, 16, 4);
 //! merikohin::clear(&mut ram, screen, 0, 65535)?;
-//! let triangle = Triangle {
-//!     vertices: [0, 0, 32, 0, 0, 32].into(), // in eighths of a pixel
-//!     blue: Plane { c: 1 << 16, a: 0, b: 0 },
-//!     ..Triangle::default()
-//! };
+//! let vertex = |x, y| Vertex { x, y, depth: 0, colour: 1 }; // x and y in eighths of a pixel
+//! let triangle = Triangle::through([vertex(0, 0), vertex(32, 0), vertex(0, 32)])?;
 //! let drawn = merikohin::draw(&mut ram, screen, triangle)?;
 //! assert_eq!((drawn.covered, drawn.written), (6, 6));
 //! assert_eq!(merikohin::row(&ram, screen, 2)?[..4], [0, 1, 0, 0]);
@@ -30,7 +27,7 @@ mod data;
 pub mod raw;
 mod refusal;
 
-pub use data::{Plane, Screen, State, Tree, Triangle, Values, Vertices};
+pub use data::{Plane, Screen, State, Tree, Triangle, Values, Vertex, Vertices};
 pub use refusal::{Halt, Refusal};
 
 /// The directory the library was linked from: `target/staticlib`, or what
@@ -119,7 +116,7 @@ pub fn draw(ram: &mut [u8], screen: Screen, triangle: Triangle) -> Result<Drawn,
 /// pixel that the triangle covers it is above the exact value, which is a
 /// fraction, and by at most 1,119 units of 1/65536, so its top half is never
 /// below the least of the three values nor above the greatest. Refuses with 6
-/// and 9.
+/// and 9. [`Triangle::through`] works out all four planes of a triangle.
 ///
 /// ```
 /// use merikohin::{plane_through, Plane, Refusal};
@@ -293,6 +290,86 @@ mod tests {
             let halts = (11..18).contains(&number);
             assert_eq!(Halt::from_number(number).map_or(0, Halt::number), if halts { number } else { 0 });
         }
+    }
+
+    fn vertex(x: i32, y: i32, depth: u16, colour: u16) -> Vertex {
+        Vertex { x, y, depth, colour }
+    }
+
+    /// Each plane is the call's for its own part of the vertices.
+    #[test]
+    fn four_planes() {
+        let red = |part: u16| part << 11;
+        let vertices = [vertex(4, 4, 7, red(31)), vertex(84, 4, 407, 40 << 5), vertex(4, 44, 7, red(1) | 10)];
+        let triangle = Triangle::through(vertices).unwrap();
+        let through = |values: [i32; 3]| plane_through([4, 4, 84, 4, 4, 44].into(), values.into()).unwrap();
+        assert_eq!(triangle.vertices.numbers(), [4, 4, 84, 4, 4, 44]);
+        assert_eq!(triangle.depth, Plane { c: (7 << 16) + 1119, a: 40 << 16, b: 0 });
+        assert_eq!([triangle.depth, triangle.red], [through([7, 407, 7]), through([31, 0, 1])]);
+        assert_eq!([triangle.green, triangle.blue], [through([0, 40, 0]), through([0, 0, 10])]);
+    }
+
+    /// What a triangle of vertices is refused for, each beside one that is not; and 6 goes before 9.
+    #[test]
+    fn no_triangle() {
+        let refusal = |vertices: [Vertex; 3]| Triangle::through(vertices).err();
+        let [a, b, c] = [vertex(0, 0, 0, 0), vertex(8, 0, 0, 0), vertex(0, 8, 0, 0)];
+        let deep = |depth: u16| Vertex { depth, ..c };
+        assert_eq!(refusal([a, b, deep(32767)]), None);
+        assert_eq!(refusal([a, b, deep(32768)]), Some(Refusal::NoPlane));
+        assert_eq!(refusal([a, b, deep(65535)]), Some(Refusal::NoPlane));
+        assert_eq!(refusal([a, c, b]), Some(Refusal::NoPlane));
+        assert_eq!(refusal([a, b, b]), Some(Refusal::NoPlane));
+        // An eighth of a pixel high, so over a pixel the depth changes eight times as much.
+        let low = |depth: u16| vertex(0, 1, depth, 0);
+        assert_eq!(refusal([a, b, low(4095)]), None);
+        assert_eq!(refusal([a, b, low(4096)]), Some(Refusal::NoPlane));
+        // In a long sliver a colour alone can be too steep; its doubled area is `wide`.
+        let sliver = |wide: i32, colour: u16| {
+            [vertex(-8192, -8192, 0, 0), vertex(8191, 8190, 0, 0), vertex(wide - 8192, wide - 8192, 0, colour)]
+        };
+        assert_eq!(refusal(sliver(252, 63 << 5)), None);
+        assert_eq!(refusal(sliver(251, 63 << 5)), Some(Refusal::NoPlane));
+        assert_eq!(refusal(sliver(251, 62 << 5)), None);
+        for far in [vertex(8192, 0, 0, 0), vertex(0, -8193, 0, 0), vertex(i32::MAX, i32::MIN, 65535, 65535)] {
+            assert_eq!(refusal([far, a, c]), Some(Refusal::VertexOutOfRange));
+        }
+    }
+
+    /// At every pixel that a triangle writes, its depth and each part of its colour are between those of its vertices.
+    #[test]
+    fn nothing_wraps() {
+        let screen = Screen::new(0, 1024, 32, 16);
+        let mut seed = 1u32;
+        let mut next = |count: u32| {
+            seed = seed.wrapping_mul(1_664_525).wrapping_add(1_013_904_223);
+            (seed >> 16) % count
+        };
+        let (mut drawn, mut written) = (0, 0);
+        while drawn < 500 {
+            let vertices = [0; 3].map(|_| {
+                let (x, y) = (next(400) as i32 - 72, next(272) as i32 - 72);
+                vertex(x, y, [0, 1, 300, 32767][next(4) as usize], [0, 0xffff, 0xf81f, 0x07e0][next(4) as usize])
+            });
+            let triangle = match Triangle::through(vertices) {
+                Ok(triangle) => triangle,
+                Err(_) => continue,
+            };
+            let mut ram = vec![0; 2048];
+            clear(&mut ram, screen, 0x1234, 65535).unwrap();
+            written += draw(&mut ram, screen, triangle).unwrap().written;
+            drawn += 1;
+            let half = |at: usize| u16::from_be_bytes([ram[at], ram[at + 1]]);
+            for at in (0..1024).step_by(2).filter(|at| half(1024 + at) != 65535) {
+                let here = vertex(0, 0, half(1024 + at), half(at)).values();
+                for (k, value) in here.into_iter().enumerate() {
+                    let at_vertices = vertices.map(|vertex| vertex.values()[k]);
+                    let range = *at_vertices.iter().min().unwrap()..=*at_vertices.iter().max().unwrap();
+                    assert!(range.contains(&value), "{vertices:?}: {here:?}");
+                }
+            }
+        }
+        assert!(written > 20_000, "{written}");
     }
 
     #[test]
