@@ -6,6 +6,7 @@ mod problem;
 mod run;
 mod scene;
 mod terminal;
+mod vertices;
 mod why;
 
 use files::Output;
@@ -220,7 +221,7 @@ fn draw(file: &str, output: Option<Output>) -> Result<bool, Problem> {
 fn explain(number: u32) -> bool {
     let who = match number {
         0 => "what every call answers where nothing was refused",
-        1..=8 => "a call's refusal: nothing was changed",
+        1..=9 => "a call's refusal: nothing was changed",
         11..=17 => "a halt: the step was not carried out, and its state says so",
         _ => "this program's own",
     };

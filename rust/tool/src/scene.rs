@@ -1,7 +1,8 @@
 //! Scenes: text, a line for the screen and for each clear or triangle.
 
 use crate::problem::{self, Place, Problem};
-use merikohin::{Plane, Refusal, Screen, Triangle};
+use crate::vertices;
+use merikohin::{Plane, Refusal, Screen, Triangle, Vertices};
 
 #[derive(Clone, Copy, Debug, PartialEq)]
 pub enum Item {
@@ -47,8 +48,8 @@ impl Scene {
                 self.read_screen(rest)
             }
             "clear" => {
-                let [colour, depth] = fields(name, rest, ["colour", "depth"])?;
-                let colour = number(colour.0, colour.1)?;
+                let [(name, text), depth] = fields(name, rest, ["colour", "depth"])?;
+                let colour = colour(name, text)?;
                 self.items.push((line, Item::Clear { colour, depth: number(depth.0, depth.1)? }));
                 Ok(())
             }
@@ -103,18 +104,20 @@ impl Scene {
             Item::Clear { colour, depth } => merikohin::clear(ram, self.screen, colour, depth).map(|()| None),
             Item::Triangle(triangle) => merikohin::draw(ram, self.screen, triangle).map(Some),
         };
-        answer.map_err(|refusal| Problem::refused(refusal, refused_value(item)).at(Place::line(&self.file, line)))
+        answer.map_err(|refusal| {
+            let value = match item {
+                Item::Triangle(triangle) => vertex_out_of_range(triangle.vertices),
+                Item::Clear { .. } => String::new(),
+            };
+            Problem::refused(refusal, value).at(Place::line(&self.file, line))
+        })
     }
 }
 
-/// The vertex number out of range, where there is one.
-fn refused_value(item: Item) -> String {
-    let triangle = match item {
-        Item::Triangle(triangle) => triangle,
-        Item::Clear { .. } => return String::new(),
-    };
+/// The first vertex number out of range, where there is one.
+pub fn vertex_out_of_range(vertices: Vertices) -> String {
     let range = merikohin::VERTEX_LEAST..=merikohin::VERTEX_MOST;
-    let named = VERTEX_NAMES.iter().zip(triangle.vertices.numbers());
+    let named = VERTEX_NAMES.iter().zip(vertices.numbers());
     named
         .filter(|(_, value)| !range.contains(value))
         .map(|(name, value)| format!("{name} = {value}"))
@@ -138,7 +141,25 @@ fn fields<'a, const N: usize>(
     }))
 }
 
-fn number<T: TryFrom<i128>>(name: &str, text: &str) -> Result<T, Problem> {
+/// A colour: one number, or its red, green and blue with commas between them.
+pub fn colour(name: &str, text: &str) -> Result<u16, Problem> {
+    let parts: Vec<&str> = text.split(',').collect();
+    if parts.len() != 3 {
+        return number(name, text);
+    }
+    let mut colour = 0;
+    for ((part, most), text) in [("red", 31), ("green", 63), ("blue", 31)].into_iter().zip(parts) {
+        let name = format!("{part} of {name}");
+        let value: u16 = number(&name, text)?;
+        if value > most {
+            return Err(Problem::new(problem::NO_FIT, format!("{name} = {value}, above {most}")));
+        }
+        colour = colour * (most + 1) + value;
+    }
+    Ok(colour)
+}
+
+pub fn number<T: TryFrom<i128>>(name: &str, text: &str) -> Result<T, Problem> {
     let value =
         kit::args::number::<i128>(text).map_err(|_| Problem::new(problem::NO_NUMBER, format!("{name} = {text}")))?;
     T::try_from(value).map_err(|_| Problem::new(problem::NO_FIT, format!("{name} = {text}")))
@@ -163,7 +184,11 @@ fn plane_number(name: &str, text: &str) -> Result<i32, Problem> {
     i32::try_from(value).map_err(|_| Problem::new(problem::NO_FIT, format!("{name} = {text}")))
 }
 
+/// By its planes, or by what its vertices have.
 fn read_triangle(words: &[&str]) -> Result<Triangle, Problem> {
+    if words.contains(&"vertex") {
+        return vertices::read_triangle(words);
+    }
     let form = "triangle x1 y1 x2 y2 x3 y3 [depth c a b] [red c a b] [green c a b] [blue c a b]";
     if words.len() < 6 || words.len() % 4 != 2 {
         return Err(Problem::new(problem::LINE, form));
@@ -205,6 +230,27 @@ mod tests {
         assert_eq!(plane_number("c", "-32768.0"), Ok(i32::MIN));
     }
 
+    #[test]
+    fn colours() {
+        for (text, value) in
+            [("0xffff", 65535), ("2048", 2048), ("31,63,31", 65535), ("1,0,0", 2048), ("0,1,0", 32), ("0,0,0x1f", 31)]
+        {
+            assert_eq!(colour("colour", text), Ok(value), "{text}");
+        }
+        for (text, wanted) in [
+            ("65536", "113: the number does not fit: colour = 65536"),
+            ("32,0,0", "113: the number does not fit: red of colour = 32, above 31"),
+            ("0,64,0", "113: the number does not fit: green of colour = 64, above 63"),
+            ("0,0,32", "113: the number does not fit: blue of colour = 32, above 31"),
+            ("0,-1,0", "113: the number does not fit: green of colour = -1"),
+            ("1,,2", "116: this is not a number: green of colour = "),
+            ("1,2", "116: this is not a number: colour = 1,2"),
+            ("1,2,3,4", "116: this is not a number: colour = 1,2,3,4"),
+        ] {
+            assert_eq!(colour("colour", text).unwrap_err().to_string(), wanted);
+        }
+    }
+
     fn problem(text: &str) -> String {
         Scene::read("s", text).unwrap_err().to_string()
     }
@@ -222,6 +268,10 @@ mod tests {
             ("screen 16 4\nclear 0", "110: the line is not understood: clear colour depth (s, line 2)"),
             ("screen 16 4\ncircle 1", "110: the line is not understood: circle (s, line 2)"),
             ("screen 16 4\ntriangle 0 0 a 0 0 0", "116: this is not a number: x2 = a (s, line 2)"),
+            (
+                "screen 16 4\n\ntriangle vertex 0 0 1 0 vertex 8 0 1 0 vertex a 8 1 0",
+                "116: this is not a number: x3 = a (s, line 3)",
+            ),
         ] {
             assert_eq!(problem(text), wanted);
         }

@@ -79,7 +79,7 @@ const LINES: [(&str, i32, u32, &str); 21] = [
 ];
 
 /// Programs and scenes that are refused at their last line: the suffix, the text, the number, the value.
-const TEXTS: [(&str, &str, u32, &str); 11] = [
+const TEXTS: [(&str, &str, u32, &str); 15] = [
     ("s", "9x: TREEPUT", 110, "9x"),
     ("s", "\nJUMP 3", 111, "JUMP"),
     ("s", "ADD R1, R2", 112, "ADD r1, r2, r3"),
@@ -91,7 +91,14 @@ const TEXTS: [(&str, &str, u32, &str); 11] = [
     ("txt", "screen 16 4\nsquare 1", 110, "square"),
     ("txt", "screen 16 4\nclear 65536 0", 113, "colour = 65536"),
     ("txt", "screen 16 4\nclear red 0", 116, "colour = red"),
+    ("txt", "screen 16 4\nclear 31,64,31 0", 113, "green of colour = 64, above 63"),
+    ("txt", "screen 16 4\ntriangle vertex 0 0 1 0", 110, VERTICES),
+    ("txt", "screen 16 4\ntriangle vertex 0 0 1 0 vertex 8 0 65536 0 vertex 0 8 1 0", 113, "colour2 = 65536"),
+    ("txt", "screen 16 4\ntriangle vertex 0 0 1 0 vertex 8 0 1 far vertex 0 8 1 0", 116, "depth2 = far"),
 ];
+
+/// How a triangle of vertices is written.
+const VERTICES: &str = "triangle vertex x y colour depth vertex x y colour depth vertex x y colour depth";
 
 /// Every number of the command's own, with its status.
 #[test]
@@ -119,6 +126,35 @@ fn its_own_numbers() {
     }
 }
 
+/// Scenes that the engine refuses: the number, the value and the line.
+const SCENES: [(&str, u32, &str, usize); 10] = [
+    ("screen 16 4 0 128 4194305", 3, "4194305 bytes", 1),
+    ("screen 20 4", 5, "20 by 4, colours at 0, depths at 160, RAM of 320 bytes", 1),
+    ("screen 16 4 0 130 257", 5, "16 by 4, colours at 0, depths at 130, RAM of 257 bytes", 1),
+    ("screen 16 4\n\n\n\n\n\ntriangle 8192 0 0 0 0 0", 6, "x1 = 8192", 7),
+    ("screen 16 4\ntriangle 0 0 0 8191 0 -8193", 6, "y3 = -8193", 2),
+    ("screen 16 4\n\ntriangle vertex 0 0 1 0 vertex 8192 0 1 0 vertex 0 8 1 40000", 6, "x2 = 8192", 3),
+    ("screen 16 4\ntriangle vertex 0 0 1 0 vertex 8 0 1 32768 vertex 0 8 1 0", 9, "depth2 = 32768", 2),
+    (
+        "screen 16 4\ntriangle vertex 0 0 1 0 vertex 0 8 1 0 vertex 8 0 1 0",
+        9,
+        "the vertices go round anticlockwise, which covers nothing: exchange two of them",
+        2,
+    ),
+    (
+        "screen 16 4\ntriangle vertex 0 0 1 0 vertex 8 8 1 0 vertex 16 16 1 0",
+        9,
+        "the vertices are on one line, which covers nothing",
+        2,
+    ),
+    (
+        "screen 640 480\nclear 0 0\ntriangle vertex 4800 0 1 0 vertex 4880 0 1 32767 vertex 4800 80 1 0",
+        9,
+        "depth: too steep, outside -32768..32767 at pixel (0, 0) or from one pixel to the next",
+        3,
+    ),
+];
+
 /// The engine's refusals that a user can meet.
 #[test]
 fn refusals() {
@@ -130,14 +166,7 @@ fn refusals() {
     assert!(!Path::new(&file("never.bin")).exists());
     fails(&["run", &words], 3, 1, &format!("1025 words ({words})"));
     fails(&["run", &empty, "--ram", &ram], 3, 3, &format!("4194305 bytes ({empty})"));
-    let scenes = [
-        ("screen 16 4 0 128 4194305", 3, "4194305 bytes", 1),
-        ("screen 20 4", 5, "20 by 4, colours at 0, depths at 160, RAM of 320 bytes", 1),
-        ("screen 16 4 0 130 257", 5, "16 by 4, colours at 0, depths at 130, RAM of 257 bytes", 1),
-        ("screen 16 4\n\n\n\n\n\ntriangle 8192 0 0 0 0 0", 6, "x1 = 8192", 7),
-        ("screen 16 4\ntriangle 0 0 0 8191 0 -8193", 6, "y3 = -8193", 2),
-    ];
-    for (k, (text, number, value, line)) in scenes.iter().enumerate() {
+    for (k, (text, number, value, line)) in SCENES.iter().enumerate() {
         let path = written(&format!("refused{k}.txt"), text);
         fails(&["draw", &path], 3, *number, &format!(": {value} ({path}, line {line})"));
         fails(&["why", &path, "0", "0"], 3, *number, &format!(": {value} ({path}, line {line})"));
@@ -266,6 +295,26 @@ fn outputs() {
     assert_eq!((all[3].len(), all[3][1], all[3][128]), (256, 1, 0));
 }
 
+/// Vertices with their colours and depths: two triangles that cross, and at each pixel the nearer one is seen.
+#[test]
+fn shaded() {
+    let scene = "examples/scenes/shaded.txt";
+    let picture = file("shaded.png");
+    let out = done(&["draw", scene, "-o", &picture]);
+    assert_eq!(out, "line 5: covered 22076, written 22076\nline 6: covered 25520, written 16392\n");
+    assert!(fs::read(picture).unwrap() == fs::read(repository("examples/scenes/shaded.png")).unwrap());
+    let pixels = [
+        ("160", ["4583, stored 65535: written", "4976, stored 4583: hidden"]),
+        ("200", ["5484, stored 65535: written", "4114, stored 5484: written"]),
+    ];
+    for (x, fates) in pixels {
+        let told = done(&["why", scene, x, "120"]);
+        for (line, fate) in told.lines().skip(1).zip(fates) {
+            assert!(line.contains(": triangle: covers it ") && line.contains(&format!("; depth {fate}")), "{told}");
+        }
+    }
+}
+
 /// RAM from a file, through a program, into a file.
 #[test]
 fn ram() {
@@ -307,10 +356,10 @@ now: colour 0001, depth 5\n"
 fn explanations() {
     assert_eq!(done(&["explain", "0"]).lines().next(), Some("0: done"));
     assert_eq!(done(&["explain", "6"]).lines().next(), Some("6: a vertex number is outside -8192..8191"));
-    for number in (0..9).chain(11..18) {
+    for number in (0..10).chain(11..18) {
         assert!(done(&["explain", &number.to_string()]).starts_with(&format!("{number}: ")));
     }
-    for number in ["9", "10", "18", "99", "4294967295"] {
+    for number in ["10", "18", "99", "4294967295"] {
         let done = merikohin(&["explain", number]);
         assert_eq!((done.status, done.out), (1, format!("{number}: nothing answers this number\n")));
     }
