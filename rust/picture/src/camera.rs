@@ -22,7 +22,7 @@ pub type Place = (f64, f64, f64);
 /// picture, and so does this depth: a plane in space is a plane on the screen.
 pub fn seen((x, y, z): Place) -> Corner {
     let scale = scale(z);
-    Corner { x: MIDDLE + x * scale, y: HORIZON + (HEIGHT - y) * scale, depth: 1000.0 + 64000.0 * (1.0 - NEAREST / z) }
+    Corner { x: MIDDLE + x * scale, y: HORIZON + (HEIGHT - y) * scale, depth: 500.0 + 32000.0 * (1.0 - NEAREST / z) }
 }
 
 /// The same spot of the picture, in front of what is less than so many metres

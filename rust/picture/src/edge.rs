@@ -2,7 +2,7 @@
 //! the engine answers them, the points at which they are sampled, and the
 //! triangles themselves over them.
 
-use crate::canvas::{across, flat, Canvas, Colour, Corner, SAMPLE_OFFSET};
+use crate::canvas::{across, Canvas, Colour, Corner, SAMPLE_OFFSET};
 use crate::grid::colour::{EMPTY, INK, NOBODY, PAPER};
 use crate::grid::{sample, Eighths, Grid, Pixel};
 use crate::text::{self, Type};
@@ -94,15 +94,15 @@ fn arrow(canvas: &mut Canvas, (from, to): (Corner, Corner), colour: Colour) {
         depth: depth::ARROW,
     };
     canvas.line(at(0.34, 1.0), at(0.44, 1.0), 3.0, colour);
-    canvas.triangle([at(0.44, 0.4), at(0.47, 1.0), at(0.44, 1.6)], flat(colour));
+    canvas.triangle([at(0.44, 0.4), at(0.47, 1.0), at(0.44, 1.6)], [colour; 3]);
 }
 
 fn legend(canvas: &mut Canvas) {
     let set = Type { depth: depth::POINT, colour: INK, block: 2.0 };
     for (k, name) in ["TRIANGLE 1", "TRIANGLE 2"].into_iter().enumerate() {
         let y = 424.0 + 26.0 * k as f64;
-        canvas.rect((GRID.left, y), (28.0, 18.0), depth::CELL, flat(PALE[k]));
-        canvas.rect((GRID.left - 2.0, y - 2.0), (32.0, 22.0), depth::CELL + 1.0, flat(STRONG[k]));
+        canvas.rect((GRID.left, y), (28.0, 18.0), depth::CELL, PALE[k]);
+        canvas.rect((GRID.left - 2.0, y - 2.0), (32.0, 22.0), depth::CELL + 1.0, STRONG[k]);
         text::write(canvas, name, (GRID.left + 42.0, y + 2.0), set);
     }
     for (k, name) in ["SAMPLE POINT", "ON THE SHARED EDGE"].into_iter().enumerate() {

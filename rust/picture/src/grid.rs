@@ -1,9 +1,9 @@
 //! A piece of a small screen, enlarged: its pixels as squares, which of them the
 //! engine covers, and where their points are on the picture.
 
-use crate::canvas::{flat, Canvas, Colour, Corner};
+use crate::canvas::{Canvas, Colour, Corner};
 use kit::pixels;
-use merikohin::{Plane, Screen, Triangle};
+use merikohin::{Screen, Triangle, Vertex};
 
 /// A column and a row of the small screen.
 pub type Pixel = (i32, i32);
@@ -41,10 +41,10 @@ impl Grid {
         let screen = Screen::new(0, area, WIDTH, self.rows as u32);
         let mut ram = vec![0; 2 * area as usize];
         merikohin::clear(&mut ram, screen, 0, 65535).expect("the screen fits");
-        for &[(x1, y1), (x2, y2), (x3, y3)] in triangles {
-            let blue = Plane { c: 1 << 16, a: 0, b: 0 };
-            let triangle = Triangle { vertices: [x1, y1, x2, y2, x3, y3].into(), blue, ..Triangle::default() };
-            merikohin::draw(&mut ram, screen, triangle).expect("the vertices are in range");
+        for corners in triangles {
+            let vertices = corners.map(|(x, y)| Vertex { x, y, depth: 0, colour: 1 });
+            let triangle = Triangle::through(vertices).expect("the vertices are in range and go round clockwise");
+            merikohin::draw(&mut ram, screen, triangle).expect("the screen is sound");
         }
         let row = |y: u32| pixels::halves(merikohin::row(&ram, screen, y).expect("a row of the screen"));
         let marked = |y: u32| row(y).zip(0..).filter(|(colour, _)| *colour != 0).map(move |(_, x)| (x, y as i32));
@@ -66,13 +66,13 @@ impl Grid {
     /// A pixel's square, up to its lines.
     pub fn square(&self, canvas: &mut Canvas, (x, y): Pixel, depth: f64, colour: Colour) {
         let corner = (self.left + f64::from(x) * self.cell + 1.0, self.top + f64::from(y) * self.cell + 1.0);
-        canvas.rect(corner, (self.cell - 1.0, self.cell - 1.0), depth, flat(colour));
+        canvas.rect(corner, (self.cell - 1.0, self.cell - 1.0), depth, colour);
     }
 
     /// The lines, behind all squares.
     pub fn lines(&self, canvas: &mut Canvas, depth: f64) {
         let size = (f64::from(self.columns) * self.cell + 1.0, f64::from(self.rows) * self.cell + 1.0);
-        canvas.rect((self.left, self.top), size, depth, flat(colour::LINES));
+        canvas.rect((self.left, self.top), size, depth, colour::LINES);
     }
 }
 

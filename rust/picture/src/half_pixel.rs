@@ -2,7 +2,7 @@
 //! at its upper left corner, and now that each is sampled at its centre. The
 //! ball's own outline is over both, and its centre beside that of its pixels.
 
-use crate::canvas::{flat, Canvas, Colour, Corner, SAMPLE_OFFSET};
+use crate::canvas::{Canvas, Colour, Corner, SAMPLE_OFFSET};
 use crate::grid::colour::{EMPTY, INK, NOBODY, PAPER};
 use crate::grid::{sample, Eighths, Grid, Pixel};
 use crate::text::{self, Type};
@@ -121,8 +121,8 @@ fn ring(canvas: &mut Canvas, at: Corner) {
 fn cross(canvas: &mut Canvas, at: Corner) {
     for (wide, high) in [(23.0, 3.0), (3.0, 23.0)] {
         let corner = (at.x - wide / 2.0, at.y - high / 2.0);
-        canvas.rect(corner, (wide, high), at.depth, flat(MARK));
-        canvas.rect((corner.0 - 1.0, corner.1 - 1.0), (wide + 2.0, high + 2.0), at.depth + 1.0, flat(PAPER));
+        canvas.rect(corner, (wide, high), at.depth, MARK);
+        canvas.rect((corner.0 - 1.0, corner.1 - 1.0), (wide + 2.0, high + 2.0), at.depth + 1.0, PAPER);
     }
 }
 

@@ -1,7 +1,7 @@
 //! The strip under the picture, from its top: the frames' numbers, the sound with
 //! the cursor, and the ruler in samples.
 
-use crate::canvas::{flat, Canvas, Colour};
+use crate::canvas::{Canvas, Colour};
 use crate::desk::{FRAME, FRAMES, HEIGHT, WIDTH, WORDS};
 use crate::sound::{self, SAMPLES_A_COLUMN, SAMPLES_A_FRAME};
 use crate::text::{self, Type};
@@ -45,7 +45,7 @@ pub fn draw(canvas: &mut Canvas) {
     ruler(canvas);
     text::write(canvas, "FRAMES", (4.0, WAVE + 5.0), words(colour::CAPTION));
     text::write(canvas, "SAMPLES", (4.0, RULER - 6.0 - text::HIGH), words(colour::CAPTION));
-    canvas.rect((0.0, TOP), (f64::from(WIDTH), f64::from(HEIGHT) - TOP), depth::GROUND, flat(colour::GROUND));
+    canvas.rect((0.0, TOP), (f64::from(WIDTH), f64::from(HEIGHT) - TOP), depth::GROUND, colour::GROUND);
 }
 
 fn words(colour: Colour) -> Type {
@@ -61,7 +61,7 @@ fn frames(canvas: &mut Canvas) {
             true => (colour::CURSOR, colour::GROUND),
             false => (colour::FRAME, colour::WORDS),
         };
-        canvas.rect((left, TOP), size, depth::SHOWN, flat(ground));
+        canvas.rect((left, TOP), size, depth::SHOWN, ground);
         text::write_around(canvas, &frame.to_string(), (left + size.0 / 2.0, TOP + size.1 / 2.0), words(word));
     }
 }
@@ -71,12 +71,12 @@ fn frames(canvas: &mut Canvas) {
 fn waveform(canvas: &mut Canvas) {
     let samples = sound::recording((WIDTH * SAMPLES_A_COLUMN) as usize);
     let (left, high) = (f64::from(sound::frame_starts(FRAME).1), f64::from(WAVE_HIGH));
-    canvas.rect((left, WAVE), (FRAME_WIDE, high), depth::SHOWN, flat(colour::SHOWN));
-    canvas.rect((left, WAVE - 1.0), (1.0, high + 10.0), depth::CURSOR, flat(colour::CURSOR));
+    canvas.rect((left, WAVE), (FRAME_WIDE, high), depth::SHOWN, colour::SHOWN);
+    canvas.rect((left, WAVE - 1.0), (1.0, high + 10.0), depth::CURSOR, colour::CURSOR);
     for column in 0..WIDTH {
         if let Some((top, bottom)) = sound::rows(&samples, column, WAVE_HIGH) {
             let at = (f64::from(column), WAVE + f64::from(top));
-            canvas.rect(at, (1.0, f64::from(bottom - top + 1)), depth::TRACE, flat(colour::TRACE));
+            canvas.rect(at, (1.0, f64::from(bottom - top + 1)), depth::TRACE, colour::TRACE);
         }
     }
 }
@@ -84,12 +84,12 @@ fn waveform(canvas: &mut Canvas) {
 /// A mark at every so many samples, the large ones with their number; the
 /// cursor's own number in its colour.
 fn ruler(canvas: &mut Canvas) {
-    canvas.rect((0.0, RULER - 1.0), (f64::from(WIDTH), 1.0), depth::TRACE, flat(colour::FAINT));
+    canvas.rect((0.0, RULER - 1.0), (f64::from(WIDTH), 1.0), depth::TRACE, colour::FAINT);
     for sample in (0..WIDTH * SAMPLES_A_COLUMN).step_by(SMALL_MARK as usize) {
         let large = sample % LARGE_MARK == 0;
         let (high, mark) = if large { (7.0, colour::WORDS) } else { (3.0, colour::FAINT) };
         let x = f64::from(sample / SAMPLES_A_COLUMN);
-        canvas.rect((x, RULER), (1.0, high), depth::TRACE, flat(mark));
+        canvas.rect((x, RULER), (1.0, high), depth::TRACE, mark);
         if large {
             number(canvas, sample, colour::WORDS);
         }

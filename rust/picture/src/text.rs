@@ -1,7 +1,7 @@
 //! Letters and digits of 5 by 7 blocks. Blocks side by side are one rectangle,
 //! two triangles.
 
-use crate::canvas::{flat, Canvas, Colour, Point};
+use crate::canvas::{Canvas, Colour, Point};
 
 const WIDE: usize = 5;
 
@@ -69,7 +69,7 @@ pub fn write(canvas: &mut Canvas, text: &str, (x, y): Point, set: Type) {
         for (row, blocks) in glyph(letter).iter().enumerate() {
             for (first, count) in runs(blocks) {
                 let at = (left + first as f64 * set.block, y + row as f64 * set.block);
-                canvas.rect(at, (count as f64 * set.block, set.block), set.depth, flat(set.colour));
+                canvas.rect(at, (count as f64 * set.block, set.block), set.depth, set.colour);
             }
         }
     }
