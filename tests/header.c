@@ -1,6 +1,6 @@
 /* What merikohin.h says and the library does, by C11 and by C++: constants, size
- * numbers, sentences, NULL with length 0, any address, the sample point, fields
- * without meaning, single steps.
+ * numbers, sentences, NULL with length 0, any address, the sample point, planes
+ * through values, fields without meaning, single steps.
  * The status is 0 where all holds; else each line that failed is printed.
  */
 #include "merikohin.h"
@@ -116,6 +116,76 @@ static void sampled_at_the_centre(void)
     HOLDS(drawn(ram, 32, 32, 0, 32, 32, 0).covered == 10);
 }
 
+static merikohin_through through(int32_t x1, int32_t y1, int32_t x2, int32_t y2, int32_t x3, int32_t y3, int32_t r1, int32_t r2,
+                                 int32_t r3)
+{
+    merikohin_vertices v;
+    merikohin_values r;
+    v.x1 = x1, v.y1 = y1, v.x2 = x2, v.y2 = y2, v.x3 = x3, v.y3 = y3;
+    r.r1 = r1, r.r2 = r2, r.r3 = r3;
+    return merikohin_plane_through(v, r);
+}
+
+static int is(merikohin_through t, int32_t c, int32_t a, int32_t b)
+{
+    return t.number == MERIKOHIN_DONE && t.plane.c == c && t.plane.a == a && t.plane.b == b;
+}
+
+/* A refusal has its number and three zeros. */
+static int none(merikohin_through t, uint32_t number)
+{
+    return t.number == number && t.plane.c == 0 && t.plane.a == 0 && t.plane.b == 0;
+}
+
+/* Planes worked out by hand; c, a and b at both ends of signed 32 bits, and just past them. */
+static void planes_through_values(void)
+{
+    HOLDS(is(through(4, 4, 36, 4, 4, 36, 10, 30, 20), 10 * 65536 + 1119, 5 * 65536, 5 * 32768));
+    HOLDS(is(through(0, 0, 8, 0, 0, 8, 0, 3, 0), 3 * 32768 + 1119, 3 * 65536, 0));
+    HOLDS(is(through(4, 4, 28, 4, 4, 28, 1, 0, 0), 65536 + 1119, -21846, -21846));
+    HOLDS(is(through(-8192, -8192, 8191, -8192, -8192, 8191, 32767, 32767, 32767), 32767 * 65536 + 1119, 0, 0));
+    HOLDS(is(through(-8192, -8192, 8191, -8192, -8192, 8191, 0, 0, 0), 1119, 0, 0));
+
+    HOLDS(is(through(-1091, 4, -330, 4, -1091, 12, 0, 22773, 0), INT32_MAX, 15689370, 0));
+    HOLDS(none(through(-1735, 4, -1442, 4, -1735, 12, 0, 5521, 0), MERIKOHIN_NO_PLANE));
+    HOLDS(is(through(-2425, 4, -2132, 4, -2425, 12, 16384, 10455, 16384), INT32_MIN, -10609228, 0));
+    HOLDS(none(through(-1714, 4, -1187, 4, -1714, 12, 32767, 12664, 32767), MERIKOHIN_NO_PLANE));
+
+    HOLDS(is(through(4, 4, 5, 4, 4, 5, 4096, 0, 4096), 4096 * 65536 + 1119, INT32_MIN, 0));
+    HOLDS(none(through(4, 4, 5, 4, 4, 5, 4097, 0, 4097), MERIKOHIN_NO_PLANE));
+    HOLDS(is(through(4, 4, 5, 4, 4, 5, 0, 4095, 0), 1119, 4095 * 524288, 0));
+    HOLDS(none(through(4, 4, 5, 4, 4, 5, 0, 4096, 0), MERIKOHIN_NO_PLANE));
+    HOLDS(is(through(4, 4, 5, 4, 4, 5, 4096, 4096, 0), 4096 * 65536 + 1119, 0, INT32_MIN));
+    HOLDS(none(through(4, 4, 5, 4, 4, 5, 4097, 4097, 0), MERIKOHIN_NO_PLANE));
+    HOLDS(is(through(4, 4, 5, 4, 4, 5, 0, 0, 4095), 1119, 0, 4095 * 524288));
+    HOLDS(none(through(4, 4, 5, 4, 4, 5, 0, 0, 4096), MERIKOHIN_NO_PLANE));
+}
+
+/* Every vertex number and every value just out of range and at both ends of 32 bits; no area and a negative one; and of several
+ * faults at once the lower number. */
+static void no_plane(void)
+{
+    const int32_t far_vertices[] = {-8193, 8192, INT32_MIN, INT32_MAX}, far_values[] = {-1, 32768, INT32_MIN, INT32_MAX};
+    for (int k = 0; k < 4; k++) {
+        const int32_t v = far_vertices[k], r = far_values[k];
+        for (int at = 0; at < 6; at++) {
+            int32_t n[6] = {0, 0, 8, 0, 0, 8};
+            n[at] = v;
+            HOLDS(none(through(n[0], n[1], n[2], n[3], n[4], n[5], 0, 0, 0), MERIKOHIN_VERTEX_OUT_OF_RANGE));
+            HOLDS(none(through(n[0], n[1], n[4], n[5], n[2], n[3], 0, r, 0), MERIKOHIN_VERTEX_OUT_OF_RANGE));
+        }
+        HOLDS(none(through(0, 0, 8, 0, 0, 8, r, 0, 0), MERIKOHIN_NO_PLANE));
+        HOLDS(none(through(0, 0, 8, 0, 0, 8, 0, r, 0), MERIKOHIN_NO_PLANE));
+        HOLDS(none(through(0, 0, 8, 0, 0, 8, 0, 0, r), MERIKOHIN_NO_PLANE));
+        HOLDS(none(through(0, 0, 8, 8, 16, 16, r, r, r), MERIKOHIN_NO_PLANE));
+        HOLDS(none(through(v, v, v, v, v, v, r, r, r), MERIKOHIN_VERTEX_OUT_OF_RANGE));
+    }
+    HOLDS(none(through(0, 0, 8, 8, 16, 16, 1, 1, 1), MERIKOHIN_NO_PLANE));
+    HOLDS(none(through(3, 3, 3, 3, 3, 3, 1, 1, 1), MERIKOHIN_NO_PLANE));
+    HOLDS(none(through(0, 0, 0, 8, 8, 0, 1, 1, 1), MERIKOHIN_NO_PLANE));
+    HOLDS(none(through(-8192, -8192, -8192, 8191, 8191, -8192, 1, 1, 1), MERIKOHIN_NO_PLANE));
+}
+
 /* A fresh state has 0 in every field; a run leaves what was there in those that mean nothing,
  * but for yes and no, which become 1 and 0. */
 static void without_meaning(void)
@@ -166,13 +236,15 @@ static void steps(void)
 
 int main(void)
 {
-    const uint32_t numbers[] = {0, 1, 2, 3, 4, 5, 6, 7, 8}, halts[] = {0, 11, 12, 13, 14, 15, 16, 17};
+    const uint32_t numbers[] = {0, 1, 2, 3, 4, 5, 6, 7, 8, 9}, halts[] = {0, 11, 12, 13, 14, 15, 16, 17};
     constants();
-    sentences(merikohin_says, numbers, 9);
+    sentences(merikohin_says, numbers, 10);
     sentences(merikohin_halt_says, halts, 8);
     nothing_lent();
     any_address();
     sampled_at_the_centre();
+    planes_through_values();
+    no_plane();
     without_meaning();
     steps();
     return failed;
