@@ -4,7 +4,7 @@
 //!     rt staticlib merikohin
 //!     cd rust && cargo run --release --offline -p pair
 
-use merikohin::{Plane, Refusal, Screen, Triangle};
+use merikohin::{Refusal, Screen, Triangle, Vertex};
 
 fn main() -> Result<(), Refusal> {
     // The engine has no memory of its own. Lend it any bytes, at every call.
@@ -19,13 +19,11 @@ fn main() -> Result<(), Refusal> {
     merikohin::clear(&mut ram, screen, 0, 65535)?;
 
     // Vertices are in eighths of a pixel: 32 is four pixels. A triangle covers
-    // the pixels whose centre is inside it. A plane has c + a·x + b·y at pixel
-    // (x, y), and blue is its bits 16 to 20. Planes left out are 0 everywhere:
-    // no red, no green, nearest depth.
-    for (blue, vertices) in [(1, [0, 0, 32, 0, 0, 32]), (2, [32, 32, 0, 32, 32, 0])] {
-        let blue = Plane { c: blue << 16, a: 0, b: 0 };
-        let drawn =
-            merikohin::draw(&mut ram, screen, Triangle { vertices: vertices.into(), blue, ..Triangle::default() })?;
+    // the pixels whose centre is inside it. Each vertex has its depth, 0 the
+    // nearest, and its colour: here the same at all three, a blue of 1 or 2.
+    for (blue, corners) in [(1, [(0, 0), (32, 0), (0, 32)]), (2, [(32, 32), (0, 32), (32, 0)])] {
+        let vertices = corners.map(|(x, y)| Vertex { x, y, depth: 0, colour: blue });
+        let drawn = merikohin::draw(&mut ram, screen, Triangle::through(vertices)?)?;
         eprintln!("covered {}, written {}", drawn.covered, drawn.written);
     }
 
