@@ -43,7 +43,14 @@ Status 0 where the program ended (halt 12), 1 where its steps ran out, 5 where i
         "draw",
         "merikohin draw SCENE [-o OUT]",
         "Draws a scene, a text with a line for the screen and for each clear or triangle, and prints for each
-triangle how many pixels it covered and wrote. -o: writes the screen (.png, .ppm, .txt) or the RAM (.ram).",
+triangle how many pixels it covered and wrote. -o: writes the screen (.png, .ppm, .txt) or the RAM (.ram).
+
+  screen WIDTH HEIGHT [COLOUR_START DEPTH_START [RAM]]
+  clear COLOUR DEPTH
+  triangle vertex X Y COLOUR DEPTH vertex X Y COLOUR DEPTH vertex X Y COLOUR DEPTH
+  triangle X1 Y1 X2 Y2 X3 Y3 [depth C A B] [red C A B] [green C A B] [blue C A B]
+
+Vertices are in eighths of a pixel, clockwise. A colour is a number, or RED,GREEN,BLUE up to 31,63,31.",
         "merikohin draw examples/scenes/pair.txt -o pair.png",
     ),
     (
