@@ -1,2 +1,3 @@
 pub mod Hold
 pub mod Worked
+pub mod Planes

@@ -4,3 +4,4 @@ pub mod Machine
 pub mod Table
 pub mod WorkedDrawing
 pub mod WorkedMachine
+pub mod WorkedPlanes
