@@ -245,7 +245,7 @@ fn broken_covers(slip: Slip, t: &second::Triangle, x: i128, y: i128) -> bool {
         Slip::UpperLeftY => (px, 8 * y),
         _ => (px, py),
     };
-    t.edges().iter().all(|&(from, to)| match slip {
+    second::edges(&t.vertices).iter().all(|&(from, to)| match slip {
         Slip::Ties => second::edge_value(from, to, px, py) >= 0,
         _ => second::inside(from, to, px, py),
     })

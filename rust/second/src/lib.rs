@@ -1,12 +1,14 @@
 //! The second program.
 //!
-//! It says document 01 (exact rules), as 02's (change requests) M-100 changes
-//! it, once more, independently of the engine and in their order and words, as
-//! plainly as possible: one loop over every pixel of the screen, numbers wide
-//! enough never to overflow, no shortcuts. It is there to be compared with the
-//! engine, not to be fast. The drawing is here; the machine is in [`machine`].
+//! It says document 01 (exact rules), as M-100 and M-101 of 02 (change requests)
+//! change it, once more, independently of the engine and in their order and
+//! words, as plainly as possible: one loop over every pixel of the screen, numbers
+//! wide enough never to overflow, no shortcuts. It is there to be compared with
+//! the engine, not to be fast. The drawing is here; the machine is in
+//! [`machine`], the plane through three values in [`through`].
 
 pub mod machine;
+pub mod through;
 
 // ---------------------------------------------------------------------------
 // 01, "Sizes"
@@ -102,7 +104,7 @@ pub fn draw_number(ram_bytes: usize, screen: Screen, triangle: &Triangle) -> u32
     if !sound(ram_bytes, screen) {
         return 5;
     }
-    if vertex_out_of_range(triangle) {
+    if vertex_out_of_range(&triangle.vertices) {
         return 6;
     }
     if edge_value_out_of_range(screen, triangle) {
@@ -142,8 +144,8 @@ fn ram_too_long(ram_bytes: usize) -> bool {
 }
 
 /// 6: "a vertex number outside -8192..8191".
-fn vertex_out_of_range(triangle: &Triangle) -> bool {
-    triangle.vertices.iter().any(|vertex| vertex.x < -8192 || vertex.x > 8191 || vertex.y < -8192 || vertex.y > 8191)
+pub fn vertex_out_of_range(vertices: &[Vertex; 3]) -> bool {
+    vertices.iter().any(|vertex| vertex.x < -8192 || vertex.x > 8191 || vertex.y < -8192 || vertex.y > 8191)
 }
 
 /// 7: "an edge value at some pixel of the screen outside signed 32 bits".
@@ -151,7 +153,7 @@ fn edge_value_out_of_range(screen: Screen, triangle: &Triangle) -> bool {
     for y in 0..screen.height() {
         for x in 0..screen.width() {
             let (px, py) = sample_point(x, y);
-            for (from, to) in triangle.edges() {
+            for (from, to) in edges(&triangle.vertices) {
                 let value = edge_value(from, to, px, py);
                 if value < i128::from(i32::MIN) || value > i128::from(i32::MAX) {
                     return true;
@@ -210,12 +212,10 @@ pub struct Triangle {
     pub blue: Plane,
 }
 
-impl Triangle {
-    /// 01, Triangles: "all three edges, taken in the vertices' order".
-    pub fn edges(&self) -> [(Vertex, Vertex); 3] {
-        let [first, second, third] = self.vertices;
-        [(first, second), (second, third), (third, first)]
-    }
+/// 01, Triangles: "all three edges, taken in the vertices' order".
+pub fn edges(vertices: &[Vertex; 3]) -> [(Vertex, Vertex); 3] {
+    let [first, second, third] = *vertices;
+    [(first, second), (second, third), (third, first)]
 }
 
 /// 01, Triangles: "At pixel (x, y) a plane has c + a·x + b·y, taken modulo
@@ -268,7 +268,7 @@ pub fn inside(from: Vertex, to: Vertex, px: i128, py: i128) -> bool {
 /// edges, taken in the vertices' order." (Asked of pixels on the screen.)
 pub fn covers(triangle: &Triangle, x: i128, y: i128) -> bool {
     let (px, py) = sample_point(x, y);
-    triangle.edges().iter().all(|&(from, to)| inside(from, to, px, py))
+    edges(&triangle.vertices).iter().all(|&(from, to)| inside(from, to, px, py))
 }
 
 /// 01, Numbers: the number, with the counts of pixels covered and written.
