@@ -113,14 +113,14 @@ pub fn second_screen(s: Screen) -> second::Screen {
     second::Screen { colour_start: s.colour_start, depth_start: s.depth_start, size_number: s.size_number }
 }
 
+pub fn second_vertices([x1, y1, x2, y2, x3, y3]: [i32; 6]) -> [second::Vertex; 3] {
+    [second::Vertex { x: x1, y: y1 }, second::Vertex { x: x2, y: y2 }, second::Vertex { x: x3, y: y3 }]
+}
+
 pub fn second_triangle(t: &Triangle) -> second::Triangle {
     let plane = |p: Plane| second::Plane { c: p.c, a: p.a, b: p.b };
     second::Triangle {
-        vertices: [
-            second::Vertex { x: t.vertices.x1, y: t.vertices.y1 },
-            second::Vertex { x: t.vertices.x2, y: t.vertices.y2 },
-            second::Vertex { x: t.vertices.x3, y: t.vertices.y3 },
-        ],
+        vertices: second_vertices(t.vertices.numbers()),
         depth: plane(t.depth),
         red: plane(t.red),
         green: plane(t.green),

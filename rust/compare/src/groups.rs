@@ -768,7 +768,7 @@ fn long_edges(run: &mut Run, rng: &mut Rng) {
 
 /// The greatest common divisor of a and n, and what a is multiplied by to give
 /// it, modulo n.
-fn euclid(a: i64, n: i64) -> (i64, i64) {
+pub fn euclid(a: i64, n: i64) -> (i64, i64) {
     let (mut r, mut next, mut s, mut t) = (a % n, n, 1, 0);
     while next != 0 {
         let q = r / next;

@@ -1,18 +1,19 @@
 //! Compares the engine with the second program.
 //!
-//!     compare [--drawing | --machine] [--seed N | --seed random] [--calls N]
-//!             [--programs N] [--minutes N]
+//!     compare [--drawing | --through | --machine] [--seed N | --seed random]
+//!             [--calls N] [--requests N] [--programs N] [--minutes N]
 //!     compare --broken NAME     against a wrong variant, which must mismatch
 //!     compare --self-check      all wrong variants; each must be caught
 //!     compare --case 'TEXT'     one case, as a mismatch prints it
 //!
 //! Every call is made on the engine and on the second program, each with its
-//! own copies of the memories; number, counts, row part, state, every word of
-//! data memory and every byte of RAM are compared after each. What a machine's
+//! own copies of the memories; number, counts, row part, plane, state, every word
+//! of data memory and every byte of RAM are compared after each. What a machine's
 //! runs do is done by its first single steps too; where these are all, they
-//! must end the same. One line per group, and after each half `drawing: N comparisons, M mismatches` or
-//! `machine: N comparisons, M mismatches`. The exit status is 0 if nothing
-//! mismatched, 1 if something did, 2 if the command line is wrong.
+//! must end the same. One line per group, and after each of the three parts
+//! `drawing: N comparisons, M mismatches`, and the same of `plane through` and of
+//! `machine`. The exit status is 0 if nothing mismatched, 1 if something did, 2 if
+//! the command line is wrong.
 
 mod case;
 mod check;
@@ -24,25 +25,29 @@ mod random;
 mod run;
 mod shrink;
 mod subject;
+mod through;
 
 use kit::args::{number, Arg, Args};
 use run::Run;
 use std::process::ExitCode;
 use std::time::{SystemTime, UNIX_EPOCH};
-use subject::{Slip, Subject, SLIPS};
+use subject::{Part, Slip, Subject, SLIPS};
 
-const USAGE: &str = "usage: compare [--drawing | --machine] [--seed N | --seed random] [--calls N] [--programs N] [--minutes N] [--trace]
-       compare --broken NAME [--seed N] [--calls N] [--programs N]
-       compare --self-check [--drawing | --machine] [--seed N] [--calls N] [--programs N]
+const USAGE: &str =
+    "usage: compare [PART] [--seed N | --seed random] [--calls N] [--requests N] [--programs N] [--minutes N] [--trace]
+       compare --broken NAME [--seed N] [--calls N] [--requests N] [--programs N]
+       compare --self-check [PART] [--seed N] [--calls N] [--requests N] [--programs N]
        compare --case 'TEXT'
 
---drawing      the drawing alone
---machine      the machine alone (default: both)
+--drawing      PART: the drawing alone
+--through      PART: the plane through three values alone
+--machine      PART: the machine alone (default: all three)
 --seed N       the random numbers follow from N (default 1)
 --seed random  seed 1 first, then one from the clock
 --calls N      at least N random calls of the drawing for each seed (default 100000)
+--requests N   at least N random requests for a plane for each seed (default 400000)
 --programs N   at least N random programs of 1,000 steps or more for each seed (default 10000)
---minutes N    at least N minutes of random calls, and of random programs, for each seed (default 0)
+--minutes N    at least N minutes of random calls, of random planes and of random programs, for each seed (default 0)
 --trace        print each case before it is run
 --broken NAME  put a deliberately wrong variant of the second program in the engine's place
 --self-check   do so with every variant; each must be caught
@@ -50,54 +55,48 @@ const USAGE: &str = "usage: compare [--drawing | --machine] [--seed N | --seed r
 
 The wrong variants:";
 
-/// What is compared: the calls that draw, or the machine.
-#[derive(Clone, Copy, Debug, PartialEq, Eq)]
-enum Half {
-    Drawing,
-    Machine,
-}
+impl Part {
+    const ALL: [Part; 3] = [Part::Drawing, Part::Through, Part::Machine];
 
-impl Half {
     fn name(self) -> &'static str {
         match self {
-            Half::Drawing => "drawing",
-            Half::Machine => "machine",
-        }
-    }
-
-    fn of(slip: Slip) -> Half {
-        if slip.of_the_machine() {
-            Half::Machine
-        } else {
-            Half::Drawing
+            Part::Drawing => "drawing",
+            Part::Through => "plane through",
+            Part::Machine => "machine",
         }
     }
 
     fn groups(self, run: &mut Run) {
         match self {
-            Half::Drawing => groups::all(run),
-            Half::Machine => machine::groups::all(run),
+            Part::Drawing => groups::all(run),
+            Part::Through => through::groups::all(run),
+            Part::Machine => machine::groups::all(run),
         }
     }
 }
 
-/// One case, of either half.
+/// One case, of any part.
 enum One {
     Drawing(case::Case),
+    Through(through::case::Case),
     Machine(Box<machine::case::Case>),
 }
 
 impl One {
-    fn half(&self) -> Half {
+    fn part(&self) -> Part {
         match self {
-            One::Drawing(_) => Half::Drawing,
-            One::Machine(_) => Half::Machine,
+            One::Drawing(_) => Part::Drawing,
+            One::Through(_) => Part::Through,
+            One::Machine(_) => Part::Machine,
         }
     }
 
     fn read(text: &str) -> Result<One, String> {
-        if text.trim_start().starts_with("machine") {
-            Ok(One::Machine(Box::new(text.trim_start().parse()?)))
+        let text = text.trim_start();
+        if text.starts_with("machine") {
+            Ok(One::Machine(Box::new(text.parse()?)))
+        } else if text.starts_with("through") {
+            Ok(One::Through(text.parse()?))
         } else {
             Ok(One::Drawing(text.parse()?))
         }
@@ -105,9 +104,10 @@ impl One {
 }
 
 struct Asked {
-    halves: Vec<Half>,
+    parts: Vec<Part>,
     seeds: Vec<u64>,
     calls: Option<u64>,
+    requests: Option<u64>,
     programs: Option<u64>,
     minutes: u64,
     trace: bool,
@@ -121,18 +121,33 @@ fn clock_seed() -> u64 {
     kit::rng::Rng::new(now).next() % 1_000_000_000_000
 }
 
+impl Asked {
+    /// What a command line without words asks.
+    fn all() -> Asked {
+        Asked {
+            parts: Part::ALL.to_vec(),
+            seeds: vec![1],
+            calls: None,
+            requests: None,
+            programs: None,
+            minutes: 0,
+            trace: false,
+            broken: None,
+            self_check: false,
+            case: None,
+        }
+    }
+
+    /// The counts, where they are given.
+    fn counts(&self, run: &mut Run) {
+        run.calls = self.calls.unwrap_or(run.calls);
+        run.requests = self.requests.unwrap_or(run.requests);
+        run.programs = self.programs.unwrap_or(run.programs);
+    }
+}
+
 fn asked() -> Result<Asked, String> {
-    let mut asked = Asked {
-        halves: vec![Half::Drawing, Half::Machine],
-        seeds: vec![1],
-        calls: None,
-        programs: None,
-        minutes: 0,
-        trace: false,
-        broken: None,
-        self_check: false,
-        case: None,
-    };
+    let mut asked = Asked::all();
     let mut args = Args::from_env()?;
     while let Some(arg) = args.next() {
         let (Arg::Option(word) | Arg::Plain(word)) = arg;
@@ -141,9 +156,11 @@ fn asked() -> Result<Asked, String> {
                 let text = args.value()?;
                 asked.seeds = if text == "random" { vec![1, clock_seed()] } else { vec![number(&text)?] };
             }
-            "--drawing" => asked.halves = vec![Half::Drawing],
-            "--machine" => asked.halves = vec![Half::Machine],
+            "--drawing" => asked.parts = vec![Part::Drawing],
+            "--through" => asked.parts = vec![Part::Through],
+            "--machine" => asked.parts = vec![Part::Machine],
             "--calls" => asked.calls = Some(args.number()?),
+            "--requests" => asked.requests = Some(args.number()?),
             "--programs" => asked.programs = Some(args.number()?),
             "--minutes" => asked.minutes = args.number()?,
             "--trace" => asked.trace = true,
@@ -157,12 +174,12 @@ fn asked() -> Result<Asked, String> {
             _ => return Err(format!("unknown: {word}")),
         }
     }
-    // A wrong variant, or a single case, is of one half.
+    // A wrong variant, or a single case, is of one part.
     if let Some(slip) = asked.broken {
-        asked.halves = vec![Half::of(slip)];
+        asked.parts = vec![slip.part()];
     }
     if let Some(case) = &asked.case {
-        asked.halves = vec![case.half()];
+        asked.parts = vec![case.part()];
     }
     Ok(asked)
 }
@@ -187,12 +204,11 @@ fn comparison(asked: &Asked) -> bool {
         Some(_) => println!("a wrong variant in the engine's place"),
     }
     let mut fine = true;
-    for &half in &asked.halves {
+    for &part in &asked.parts {
         let (mut comparisons, mut mismatches) = (0, 0);
         for &seed in &asked.seeds {
             let mut run = Run::new(subject, seed);
-            run.calls = asked.calls.unwrap_or(run.calls);
-            run.programs = asked.programs.unwrap_or(run.programs);
+            asked.counts(&mut run);
             run.minutes = asked.minutes;
             run.trace = asked.trace;
             if asked.broken.is_some() {
@@ -202,18 +218,19 @@ fn comparison(asked: &Asked) -> bool {
                 Some(case) => run.group("one case", |run, _| {
                     match case {
                         One::Drawing(case) => run.case(case).is_some(),
+                        One::Through(case) => run.through(case).is_some(),
                         One::Machine(case) => run.machine(case).is_some(),
                     };
                 }),
                 None => {
-                    println!("{}, seed {seed}", half.name());
-                    half.groups(&mut run);
+                    println!("{}, seed {seed}", part.name());
+                    part.groups(&mut run);
                 }
             }
             comparisons += run.comparisons;
             mismatches += run.mismatches;
         }
-        println!("{}: {comparisons} comparisons, {mismatches} mismatches", half.name());
+        println!("{}: {comparisons} comparisons, {mismatches} mismatches", part.name());
         fine &= mismatches == 0;
     }
     fine
@@ -223,15 +240,15 @@ fn comparison(asked: &Asked) -> bool {
 fn self_check(asked: &Asked) -> bool {
     let (mut caught, mut all) = (0, 0);
     for (name, slip) in SLIPS {
-        let half = Half::of(slip);
-        if !asked.halves.contains(&half) {
+        let part = slip.part();
+        if !asked.parts.contains(&part) {
             continue;
         }
         let mut run = Run::new(Subject::Broken(slip), asked.seeds[0]);
-        run.calls = asked.calls.unwrap_or(5_000);
-        run.programs = asked.programs.unwrap_or(500);
+        (run.calls, run.requests, run.programs) = (5_000, 5_000, 500);
+        asked.counts(&mut run);
         run.quiet = true;
-        half.groups(&mut run);
+        part.groups(&mut run);
         let verdict = if run.mismatches > 0 { "caught" } else { "NOT CAUGHT" };
         println!(
             "broken {name}: {verdict}, {} comparisons, {} mismatches; in: {}",

@@ -5,19 +5,24 @@ use crate::check::{check, Answer, Memories};
 use crate::machine;
 use crate::shrink::shrink;
 use crate::subject::Subject;
+use crate::through;
 use kit::rng::Rng;
 use merikohin::raw::Ran;
+use merikohin::Plane;
+use std::fmt::Display;
 
 pub struct Run {
     pub subject: Subject,
     pub seed: u64,
     /// Calls the group of random calls makes at least.
     pub calls: u64,
+    /// Requests the group of random planes makes at least.
+    pub requests: u64,
     /// Programs of 1,000 steps or more the group of long random programs runs
     /// at least.
     pub programs: u64,
-    /// Minutes the group of random calls takes at least, and the group of long
-    /// random programs.
+    /// Minutes the group of random calls takes at least, and the groups of random
+    /// planes and of long random programs.
     pub minutes: u64,
     /// Print each case before it is run.
     pub trace: bool,
@@ -42,6 +47,7 @@ impl Run {
             subject,
             seed,
             calls: 100_000,
+            requests: 400_000,
             programs: 10_000,
             minutes: 0,
             trace: false,
@@ -100,12 +106,8 @@ impl Run {
                     let smallest = shrink(self.subject, case, &mut self.memories);
                     let again = check(self.subject, &smallest, &mut self.memories).difference;
                     let (step, text) = again.map_or((difference.step, difference.text), |d| (d.step, d.text));
-                    let option = self.subject.option();
-                    println!("mismatch in \"{}\", seed {}, found with:", self.group, self.seed);
-                    println!("  compare{option} --case '{case}'");
-                    println!("the smallest found, call {} of {}:", step + 1, smallest.steps.len());
-                    println!("  compare{option} --case '{smallest}'");
-                    print!("{text}");
+                    let place = format!(", call {} of {}", step + 1, smallest.steps.len());
+                    self.tell(case, &smallest, &place, &text);
                 }
                 None
             }
@@ -129,6 +131,41 @@ impl Run {
         });
     }
 
+    /// Asks for the plane through three values, which is one comparison. Hands
+    /// back the subject's answer, the number and the plane, if it did not differ.
+    pub fn through(&mut self, case: &through::case::Case) -> Option<(u32, Plane)> {
+        if self.trace {
+            eprintln!("{case}");
+        }
+        let (seen, difference) = through::case::check(self.subject, case);
+        self.comparisons += 1;
+        match difference {
+            None => Some((seen.number, seen.plane)),
+            Some(text) => {
+                if self.mismatch() {
+                    let smallest = through::shrink(self.subject, case);
+                    let text = through::case::check(self.subject, &smallest).1.unwrap_or(text);
+                    self.tell(case, &smallest, "", &text);
+                }
+                None
+            }
+        }
+    }
+
+    /// Asks for a plane and also wants its number, and the plane where one is
+    /// given; refused, one of zeros. Hands the plane back if nothing differed.
+    pub fn through_wants(&mut self, case: &through::case::Case, number: u32, plane: Option<[i32; 3]>) -> Option<Plane> {
+        let (seen, answer) = self.through(case)?;
+        let three = [answer.c, answer.a, answer.b];
+        let plane = if number == 0 { plane } else { Some([0; 3]) };
+        let holds = seen == number && plane.unwrap_or(three) == three;
+        let option = self.subject.option();
+        self.holds(holds, || {
+            format!("wanted number {number}, c, a, b {plane:?}; answered {seen}, {three:?}\n  compare{option} --case '{case}'")
+        });
+        holds.then_some(answer)
+    }
+
     /// Runs a case of the machine; every run in it is one comparison, and every
     /// single step. Hands back the subject's answers if none differed.
     pub fn machine(&mut self, case: &machine::case::Case) -> Option<Vec<Ran>> {
@@ -144,12 +181,8 @@ impl Run {
                     let smallest = machine::shrink(self.subject, case, &mut self.machine_memories);
                     let again = machine::check::check(self.subject, &smallest, &mut self.machine_memories).difference;
                     let (run, text) = again.map_or((difference.run, difference.text), |d| (d.run, d.text));
-                    let option = self.subject.option();
-                    println!("mismatch in \"{}\", seed {}, found with:", self.group, self.seed);
-                    println!("  compare{option} --case '{case}'");
-                    println!("the smallest found, run {} of {}:", run + 1, smallest.runs.len());
-                    println!("  compare{option} --case '{smallest}'");
-                    print!("{text}");
+                    let place = format!(", run {} of {}", run + 1, smallest.runs.len());
+                    self.tell(case, &smallest, &place, &text);
                 }
                 None
             }
@@ -188,6 +221,17 @@ impl Run {
             println!("mismatch in \"{}\", seed {}:", self.group, self.seed);
             println!("  {}", words());
         }
+    }
+
+    /// Shows a case that mismatched, the smallest one found from it, and how that
+    /// one differs.
+    fn tell(&self, case: &impl Display, smallest: &impl Display, place: &str, text: &str) {
+        let option = self.subject.option();
+        println!("mismatch in \"{}\", seed {}, found with:", self.group, self.seed);
+        println!("  compare{option} --case '{case}'");
+        println!("the smallest found{place}:");
+        println!("  compare{option} --case '{smallest}'");
+        print!("{text}");
     }
 
     /// Counts a mismatch; tells whether to show it.

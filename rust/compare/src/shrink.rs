@@ -66,6 +66,25 @@ pub fn smaller(value: i64) -> Vec<i64> {
     found
 }
 
+/// Vertices moved, halved, or with one number made smaller.
+pub fn simpler_vertices(v: [i32; 6]) -> Vec<[i32; 6]> {
+    let mut found = Vec::new();
+    for by in [4096, 1024, 256, 64, 16, 8, 1, -1, -8, -64, -256, -1024, -4096] {
+        let moved = |axis: usize| std::array::from_fn(|k| if k % 2 == axis { v[k].saturating_sub(by) } else { v[k] });
+        found.extend([moved(0), moved(1)]);
+    }
+    found.push(v.map(|n| n / 2));
+    found.push(v.map(|n| n / 8 * 8));
+    for k in 0..6 {
+        for n in smaller(i64::from(v[k])) {
+            let mut new = v;
+            new[k] = n as i32;
+            found.push(new);
+        }
+    }
+    found
+}
+
 fn area(screen: Screen) -> u64 {
     u64::from(screen.size_number / 512) * u64::from(screen.size_number % 512) * 32
 }
@@ -157,35 +176,7 @@ fn candidates(case: &Case) -> Vec<Case> {
                     new.vertices = v.into();
                     Call::Draw(new)
                 };
-                let v = t.vertices.numbers();
-                // The whole triangle moved, or halved.
-                for by in [4096, 1024, 256, 64, 16, 8, 1, -1, -8, -64, -256, -1024, -4096] {
-                    push(with_vertices([
-                        v[0].saturating_sub(by),
-                        v[1],
-                        v[2].saturating_sub(by),
-                        v[3],
-                        v[4].saturating_sub(by),
-                        v[5],
-                    ]));
-                    push(with_vertices([
-                        v[0],
-                        v[1].saturating_sub(by),
-                        v[2],
-                        v[3].saturating_sub(by),
-                        v[4],
-                        v[5].saturating_sub(by),
-                    ]));
-                }
-                push(with_vertices(v.map(|n| n / 2)));
-                push(with_vertices(v.map(|n| n / 8 * 8)));
-                for k in 0..6 {
-                    for n in smaller(i64::from(v[k])) {
-                        let mut new = v;
-                        new[k] = n as i32;
-                        push(with_vertices(new));
-                    }
-                }
+                simpler_vertices(t.vertices.numbers()).into_iter().for_each(|v| push(with_vertices(v)));
                 for k in 0..4 {
                     for field in 0..3 {
                         let p = planes(&t);

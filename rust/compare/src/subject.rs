@@ -4,11 +4,12 @@
 use crate::case::{second_screen, second_triangle, Area};
 use crate::machine::broken;
 use crate::machine::case::plain_state;
+use crate::through;
 use merikohin::raw::{self, Drawn, Ran, Stepped};
-use merikohin::{Refusal, Screen, State, Triangle};
+use merikohin::{Plane, Refusal, Screen, State, Triangle};
 
-/// The slips a wrong variant can have: eight of the drawing, the others of the
-/// machine.
+/// The slips a wrong variant can have: eight of the drawing, thirteen of the
+/// plane through three values, the others of the machine.
 #[derive(Clone, Copy, Debug, PartialEq, Eq)]
 pub enum Slip {
     /// A pixel is sampled at its upper left corner, as 01 had it before 02.
@@ -28,6 +29,32 @@ pub enum Slip {
     RefusalWrites,
     /// The depth row is the row's colours.
     ColoursForDepths,
+    /// The three numbers of a plane are rounded toward zero.
+    TowardZero,
+    /// c is not raised.
+    NotRaised,
+    /// c is raised by 1,118.
+    RaisedBy1118,
+    /// c is at the upper left corner of pixel (0, 0).
+    FromTheCorner,
+    /// a and b are the steps for each eighth of a pixel.
+    StepsPerEighth,
+    /// The steps for each eighth are rounded, and then taken eight times.
+    EighthsRounded,
+    /// A doubled area of 0 is accepted.
+    NoArea,
+    /// A negative doubled area is accepted.
+    EitherWay,
+    /// A value of 32,768 is accepted.
+    Value32768,
+    /// 9 goes before 6.
+    NineFirst,
+    /// c is judged before it is raised.
+    JudgedUnraised,
+    /// a and b are not judged, and keep 32 bits.
+    StepsNotJudged,
+    /// A refusal gives the plane as far as it was worked out.
+    RefusedPlane,
     /// DOT adds four products before the shift.
     DotSum,
     /// TREEIN and TREEVAL use the new r1 for the leaves.
@@ -58,22 +85,44 @@ pub enum Slip {
 }
 
 impl Slip {
-    pub fn of_the_machine(self) -> bool {
-        !matches!(
-            self,
+    pub fn part(self) -> Part {
+        match self {
             Slip::UpperLeft
-                | Slip::UpperLeftX
-                | Slip::UpperLeftY
-                | Slip::Ties
-                | Slip::SignedDepth
-                | Slip::Count
-                | Slip::RefusalWrites
-                | Slip::ColoursForDepths
-        )
+            | Slip::UpperLeftX
+            | Slip::UpperLeftY
+            | Slip::Ties
+            | Slip::SignedDepth
+            | Slip::Count
+            | Slip::RefusalWrites
+            | Slip::ColoursForDepths => Part::Drawing,
+            Slip::TowardZero
+            | Slip::NotRaised
+            | Slip::RaisedBy1118
+            | Slip::FromTheCorner
+            | Slip::StepsPerEighth
+            | Slip::EighthsRounded
+            | Slip::NoArea
+            | Slip::EitherWay
+            | Slip::Value32768
+            | Slip::NineFirst
+            | Slip::JudgedUnraised
+            | Slip::StepsNotJudged
+            | Slip::RefusedPlane => Part::Through,
+            _ => Part::Machine,
+        }
     }
 }
 
-pub const SLIPS: [(&str, Slip); 21] = [
+/// What is compared: the calls that draw, the plane through three values, or the
+/// machine.
+#[derive(Clone, Copy, Debug, PartialEq, Eq)]
+pub enum Part {
+    Drawing,
+    Through,
+    Machine,
+}
+
+pub const SLIPS: [(&str, Slip); 34] = [
     ("upper-left", Slip::UpperLeft),
     ("upper-left-x", Slip::UpperLeftX),
     ("upper-left-y", Slip::UpperLeftY),
@@ -82,6 +131,19 @@ pub const SLIPS: [(&str, Slip); 21] = [
     ("count", Slip::Count),
     ("refusal-writes", Slip::RefusalWrites),
     ("colours-for-depths", Slip::ColoursForDepths),
+    ("toward-zero", Slip::TowardZero),
+    ("not-raised", Slip::NotRaised),
+    ("raised-by-1118", Slip::RaisedBy1118),
+    ("from-the-corner", Slip::FromTheCorner),
+    ("steps-per-eighth", Slip::StepsPerEighth),
+    ("eighths-rounded", Slip::EighthsRounded),
+    ("no-area", Slip::NoArea),
+    ("either-way", Slip::EitherWay),
+    ("value-32768", Slip::Value32768),
+    ("nine-first", Slip::NineFirst),
+    ("judged-unraised", Slip::JudgedUnraised),
+    ("steps-not-judged", Slip::StepsNotJudged),
+    ("refused-plane", Slip::RefusedPlane),
     ("dot-sum", Slip::DotSum),
     ("new-r1", Slip::NewR1),
     ("same-register", Slip::SameRegister),
@@ -112,6 +174,15 @@ pub struct RowSeen {
     /// Where the slice handed back begins, counted in bytes from the address
     /// of the RAM lent, and its length; none if start and length point outside.
     pub part: Option<(usize, usize)>,
+}
+
+/// What the plane through three values was seen to be.
+#[derive(Clone, Copy, Debug, PartialEq, Eq)]
+pub struct ThroughSeen {
+    pub number: u32,
+    pub plane: Plane,
+    /// Whether the Rust layer answers alike: the same plane, or the same number.
+    pub alike_in_rust: bool,
 }
 
 fn part_of(ram: &[u8], part: &[u8]) -> (usize, usize) {
@@ -145,6 +216,17 @@ fn engine_row(ram: &[u8], s: Screen, area: Area, row: u32) -> RowSeen {
         None
     };
     RowSeen { number: located.number, start: located.start, length: located.length, part }
+}
+
+/// What the engine answers, as C has it and as Rust has it.
+fn engine_through(case: &through::case::Case) -> ThroughSeen {
+    let (vertices, values) = (case.vertices.into(), case.values.into());
+    let raw::Through { number, plane } = raw::plane_through(vertices, values);
+    let alike_in_rust = match merikohin::plane_through(vertices, values) {
+        Ok(answer) => number == 0 && answer == plane,
+        Err(refusal) => number == refusal.number(),
+    };
+    ThroughSeen { number, plane, alike_in_rust }
 }
 
 impl Subject {
@@ -198,6 +280,13 @@ impl Subject {
             Subject::Engine => engine_row(ram, s, area, row),
             Subject::Broken(Slip::ColoursForDepths) => second_row(ram, second_screen(s), Area::Colours, row),
             Subject::Broken(_) => second_row(ram, second_screen(s), area, row),
+        }
+    }
+
+    pub fn plane_through(self, case: &through::case::Case) -> ThroughSeen {
+        match self {
+            Subject::Engine => engine_through(case),
+            Subject::Broken(slip) => through::broken::plane_through(slip, case),
         }
     }
 

@@ -2,7 +2,7 @@
 //! and the slip is put into the steps it concerns.
 
 use super::case::{plain_state, second_state};
-use crate::subject::Slip;
+use crate::subject::{Part, Slip};
 use kit::words::fields;
 use merikohin::raw::{Ran, Stepped};
 use merikohin::State;
@@ -14,7 +14,7 @@ pub fn run(slip: Slip, program: &[u32], data: &mut [u32], ram: &mut [u8], lent: 
     if number != 0 {
         return Ran { number, steps: 0, state: lent };
     }
-    if !slip.of_the_machine() {
+    if slip.part() != Part::Machine {
         let ran = machine::run(program, data, ram, &given, allowed);
         return Ran { number: ran.number, steps: ran.steps, state: plain_state(&ran.state) };
     }
