@@ -130,9 +130,9 @@ module _
     at-most-greatest =
         let ρ : List ℤ = doubledArea v ∷ greatest ∷ numerator v r (sample x y) ∷ planeTimes v p x y ∷ [] in
         let n = le-to ρ (var 2) (var 0 ⊗ var 1) (numerator-greatest v r (sample x y) i (f .first .1) (f .second .1) (f .third .1)) in
-        let a = le-to ρ (var 3) (con (pos 65536) ⊗ var 2 ⊕ var 0 ⊗ con (pos 1119)) (near .at-most) in
+        let a = le-to ρ (var 3) (con (pos 65536) ⊗ var 2 ⊕ var 0 ⊗ con raise) (near .at-most) in
         cancel-le h
-        (le-of ρ (var 3) (var 0 ⊗ (con (pos 65536) ⊗ var 1 ⊕ con (pos 1119))) (omega (arith, n, a)))
+        (le-of ρ (var 3) (var 0 ⊗ (con (pos 65536) ⊗ var 1 ⊕ con raise)) (omega (arith, n, a)))
 
 -- what the drawing takes of it, where the values are natural numbers up to 32,767
 
@@ -159,8 +159,8 @@ module _
     low : 65536 * least + dn z < up z + 0
     low = lt-is (is-pos (65536 * least)) (is-self z) (above-least h near i f)
 
-    high : up z + 0 ≤ 65536 * greatest + 1119 + dn z
-    high = le-is (is-self z) (is-pos (65536 * greatest + 1119)) (at-most-greatest h near i f)
+    high : up z + 0 ≤ 65536 * greatest + natAbs raise + dn z
+    high = le-is (is-self z) (is-pos (65536 * greatest + natAbs raise)) (at-most-greatest h near i f)
 
     pub plane-word : pos (planeAt p x y) ≡ valueAt p x y
     unfolding planeAt

@@ -60,7 +60,7 @@ module _ (v : Vertices) (n : ℤ) where
     flat-attains x y =
         ap (λ (p : Plane). planeTimes v p x y) flat-plane
         ∙ solve (doubledArea v ∷ n ∷ pos x ∷ pos y ∷ [])
-        (var 0 ⊗ (con (pos 65536) ⊗ var 1 ⊕ con (pos 1119) ⊕ con (pos 0) ⊗ var 2 ⊕ con (pos 0) ⊗ var 3))
-        (var 0 ⊗ (con (pos 65536) ⊗ var 1) ⊕ var 0 ⊗ con (pos 1119))
+        (var 0 ⊗ (con (pos 65536) ⊗ var 1 ⊕ con raise ⊕ con (pos 0) ⊗ var 2 ⊕ con (pos 0) ⊗ var 3))
+        (var 0 ⊗ (con (pos 65536) ⊗ var 1) ⊕ var 0 ⊗ con raise)
         tt
         ∙ ap (λ (z : ℤ). z +ℤ doubledArea v *ℤ raise) (sym (flat-numerator (sample x y)))

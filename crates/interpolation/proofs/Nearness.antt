@@ -8,7 +8,7 @@ use native.Mathlib.Omega.{arith}
 use lib.IntN.{ℤ, pos, negsuc, _+ℤ_, _*ℤ_}
 use lib.Signed.{_≤ℤ_, _<ℤ_}
 use Rattle.ints.proofs.Poly.{var, con, _⊕_, _⊖_, _⊗_, solve}
-use Rattle.ints.proofs.Order.{is-pos, is-lt, lt-is, le-of, lt-of, lt-to, eq-to}
+use Rattle.ints.proofs.Order.{is-pos, is-self, is-lt, lt-is, le-of, lt-of, lt-to, eq-to}
 use Rattle.rules.specs.declared.Vertices.{Vertices}
 use Rattle.rules.specs.Triangles.{sample, doubledArea}
 use Rattle.interpolation.specs.declared.Values.{Values}
@@ -34,7 +34,7 @@ lost (pos (suc k)) m n o x y hm hn ho hx hy =
     let ho′ = lt-is (is-pos o) (is-pos (suc k)) ho in
     let p : n * x ≤ k * 639 = mul-le-mul (omega (arith, hn′)) (omega arith) in
     let q : o * y ≤ k * 479 = mul-le-mul (omega (arith, ho′)) (omega arith) in
-    is-lt (is-pos (m + n * x + o * y)) (is-pos (suc k * 1119)) (omega (arith, hm′, p, q))
+    is-lt (is-pos (m + n * x + o * y)) (is-self (pos (suc k) *ℤ raise)) (omega (arith, hm′, p, q))
 
 -- three quotients rounded down, and the plane that they make
 module _ (d n a b : ℤ) (x y : ℕ) {q p s : ℤ} (l : Left (inUnits n) d q) (i : Left (inUnits (pos 8 *ℤ a)) d p) (j : Left (inUnits (pos 8 *ℤ b)) d s) where
@@ -42,15 +42,15 @@ module _ (d n a b : ℤ) (x y : ℕ) {q p s : ℤ} (l : Left (inUnits n) d q) (i
       ≡ d *ℤ (q +ℤ raise +ℤ p *ℤ pos x +ℤ s *ℤ pos y) +ℤ pos (l .over + i .over * x + j .over * y)
   summed =
       solve (n ∷ a ∷ b ∷ pos x ∷ pos y ∷ d ∷ [])
-      (con (pos 65536) ⊗ (var 0 ⊕ con (pos 8) ⊗ var 1 ⊗ var 3 ⊕ con (pos 8) ⊗ var 2 ⊗ var 4) ⊕ var 5 ⊗ con (pos 1119))
+      (con (pos 65536) ⊗ (var 0 ⊕ con (pos 8) ⊗ var 1 ⊗ var 3 ⊕ con (pos 8) ⊗ var 2 ⊗ var 4) ⊕ var 5 ⊗ con raise)
       (con (pos 65536) ⊗ var 0 ⊕ con (pos 65536) ⊗ (con (pos 8) ⊗ var 1) ⊗ var 3
-      ⊕ con (pos 65536) ⊗ (con (pos 8) ⊗ var 2) ⊗ var 4 ⊕ var 5 ⊗ con (pos 1119))
+      ⊕ con (pos 65536) ⊗ (con (pos 8) ⊗ var 2) ⊗ var 4 ⊕ var 5 ⊗ con raise)
       tt
       ∙ ap (λ (z : ℤ). z +ℤ d *ℤ raise)
       (ap₂ _+ℤ_ (ap₂ _+ℤ_ (l .whole) (ap (λ (z : ℤ). z *ℤ pos x) (i .whole))) (ap (λ (z : ℤ). z *ℤ pos y) (j .whole)))
       ∙ solve (d ∷ q ∷ p ∷ s ∷ pos (l .over) ∷ pos (i .over) ∷ pos (j .over) ∷ pos x ∷ pos y ∷ [])
-      (var 0 ⊗ var 1 ⊕ var 4 ⊕ (var 0 ⊗ var 2 ⊕ var 5) ⊗ var 7 ⊕ (var 0 ⊗ var 3 ⊕ var 6) ⊗ var 8 ⊕ var 0 ⊗ con (pos 1119))
-      (var 0 ⊗ (var 1 ⊕ con (pos 1119) ⊕ var 2 ⊗ var 7 ⊕ var 3 ⊗ var 8) ⊕ (var 4 ⊕ var 5 ⊗ var 7 ⊕ var 6 ⊗ var 8))
+      (var 0 ⊗ var 1 ⊕ var 4 ⊕ (var 0 ⊗ var 2 ⊕ var 5) ⊗ var 7 ⊕ (var 0 ⊗ var 3 ⊕ var 6) ⊗ var 8 ⊕ var 0 ⊗ con raise)
+      (var 0 ⊗ (var 1 ⊕ con raise ⊕ var 2 ⊗ var 7 ⊕ var 3 ⊗ var 8) ⊕ (var 4 ⊕ var 5 ⊗ var 7 ⊕ var 6 ⊗ var 8))
       tt
 
 module _ (v : Vertices) (r : Values) (h : pos 0 <ℤ doubledArea v) where

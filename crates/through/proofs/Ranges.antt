@@ -113,7 +113,12 @@ small {n} {a} {b} {c} ha hb hc l = record { first = one ha; second = one hb; thi
     one : {z : ℤ} → Within n z → natAbs (toZ w32 (ofZ w32 z)) ≤ 32767
     one {z} h = subst (λ (y : ℤ). natAbs y ≤ 32767) (sym (read h (omega (arith, l)))) (within-le l h .within)
 
-pub cross-read : {m n : ℕ} {a b c d e f : ℤ}
+-- what `cross` answers of six such numbers
+pub cross-answer : {m n : ℕ} {z a b c d e f : ℤ}
+    → z
+    ≡ cross
+    (toZ w32 (ofZ w32 a)) (toZ w32 (ofZ w32 b)) (toZ w32 (ofZ w32 c))
+    (toZ w32 (ofZ w32 d)) (toZ w32 (ofZ w32 e)) (toZ w32 (ofZ w32 f))
     → Within m a
     → Within m b
     → Within m c
@@ -122,14 +127,11 @@ pub cross-read : {m n : ℕ} {a b c d e f : ℤ}
     → Within n f
     → m ≤ 32767
     → n ≤ 32767
-    → cross
-    (toZ w32 (ofZ w32 a)) (toZ w32 (ofZ w32 b)) (toZ w32 (ofZ w32 c))
-    (toZ w32 (ofZ w32 d)) (toZ w32 (ofZ w32 e)) (toZ w32 (ofZ w32 f))
-    ≡ cross a b c d e f
-cross-read {m} {n} {a} {b} {c} {d} {e} {f} ha hb hc hd he hf l k =
+    → z ≡ cross a b c d e f
+cross-answer {m} {n} h ha hb hc hd he hf l k =
     let p : m ≤ 2147483647 = omega (arith, l) in
     let q : n ≤ 2147483647 = omega (arith, k) in
-    λ i. cross (read ha p i) (read hb p i) (read hc p i) (read hd q i) (read he q i) (read hf q i)
+    h ∙ (λ i. cross (read ha p i) (read hb p i) (read hc p i) (read hd q i) (read he q i) (read hf q i))
 
 -- a quotient, of numbers that the machine has
 

@@ -2,7 +2,7 @@
 use mathlib.Core.Path.{_∙_}
 use native.Mathlib.Omega.{arith}
 use Rattle.rules.specs.Triangles.{doubledArea}
-use Rattle.through.proofs.Ranges.{VerticesWithin, vertices-within, area-within, answered, small, cross-read}
+use Rattle.through.proofs.Ranges.{VerticesWithin, vertices-within, area-within, answered, small, cross-answer}
 use Rattle.through.proofs.doubled_area.Statement.{statement}
 use Rattle.through.proofs.doubled_area.Tie as tie
 
@@ -23,7 +23,7 @@ unfolding doubledArea
 returns c =
     let w = within (start (c .before)) in
     answered
-    (c .cross .ensures ∙ cross-read (w .x1) (w .x2) (w .x3) (w .y1) (w .y2) (w .y3) (omega arith) (omega arith))
+    (cross-answer (c .cross .ensures) (w .x1) (w .x2) (w .x3) (w .y1) (w .y2) (w .y3) (omega arith) (omega arith))
     (area-within (start (c .before) .args .v) w)
     tt
 

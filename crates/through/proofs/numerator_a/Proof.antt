@@ -2,7 +2,7 @@
 use mathlib.Core.Path.{sym, _∙_}
 use native.Mathlib.Omega.{arith}
 use Rattle.interpolation.proofs.Cramer.{a-by-differences}
-use Rattle.through.proofs.Ranges.{VerticesWithin, vertices-within, ValuesWithin, values-within, a-within, answered, small, cross-read}
+use Rattle.through.proofs.Ranges.{VerticesWithin, vertices-within, ValuesWithin, values-within, a-within, answered, small, cross-answer}
 use Rattle.through.proofs.numerator_a.Statement.{statement}
 use Rattle.through.proofs.numerator_a.Tie as tie
 
@@ -28,8 +28,7 @@ returns c =
     let w = vertices s in
     let u = values s in
     answered
-    (c .cross .ensures
-    ∙ cross-read (u .r1) (u .r2) (u .r3) (w .y1) (w .y2) (w .y3) (omega arith) (omega arith)
+    (cross-answer (c .cross .ensures) (u .r1) (u .r2) (u .r3) (w .y1) (w .y2) (w .y3) (omega arith) (omega arith)
     ∙ sym (a-by-differences (s .args .v) (s .args .r)))
     (a-within (s .args .v) (s .args .r) w u)
     tt

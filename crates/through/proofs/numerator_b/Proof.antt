@@ -2,7 +2,7 @@
 use mathlib.Core.Path.{sym, _∙_}
 use native.Mathlib.Omega.{arith}
 use Rattle.interpolation.proofs.Cramer.{b-by-differences}
-use Rattle.through.proofs.Ranges.{VerticesWithin, vertices-within, ValuesWithin, values-within, b-within, answered, small, cross-read}
+use Rattle.through.proofs.Ranges.{VerticesWithin, vertices-within, ValuesWithin, values-within, b-within, answered, small, cross-answer}
 use Rattle.through.proofs.numerator_b.Statement.{statement}
 use Rattle.through.proofs.numerator_b.Tie as tie
 
@@ -28,8 +28,7 @@ returns c =
     let w = vertices s in
     let u = values s in
     answered
-    (c .cross .ensures
-    ∙ cross-read (w .x1) (w .x2) (w .x3) (u .r1) (u .r2) (u .r3) (omega arith) (omega arith)
+    (cross-answer (c .cross .ensures) (w .x1) (w .x2) (w .x3) (u .r1) (u .r2) (u .r3) (omega arith) (omega arith)
     ∙ sym (b-by-differences (s .args .v) (s .args .r)))
     (b-within (s .args .v) (s .args .r) w u)
     tt
