@@ -21,8 +21,8 @@
  *
  * Numbers. Every call but merikohin_fresh answers a number: 0 is done, any
  * other says what was refused, and the lowest one that applies to the call
- * wins. Every number but 0 comes with counts of 0, with the state as given and
- * with all lent memory as it was.
+ * wins. Every number but 0 comes with counts of 0, with a plane of zeros, with
+ * the state as given and with all lent memory as it was.
  *
  * Yes and no. A flag, a mark and every has_.. is 0 for no and anything else for
  * yes. An accepted run or step answers 0 or 1 in all of them, also in a tree
@@ -269,8 +269,8 @@ merikohin_drawn merikohin_draw(uint8_t *ram, size_t ram_len, merikohin_screen s,
  * is never below the least of the three values nor above the greatest.
  * Answers 0 and the plane, or a plane of zeros with 6 (vertex number out of
  * range), else 9 (a value outside 0 to 32767, a doubled area that is not
- * positive, as of a triangle turned the other way, or c, a or b outside signed
- * 32 bits). */
+ * positive, as of vertices that go round anticlockwise on the screen, or c, a
+ * or b outside signed 32 bits). */
 MERIKOHIN_MUST_USE
 merikohin_through merikohin_plane_through(merikohin_vertices v, merikohin_values r);
 

@@ -1,28 +1,27 @@
 -- At a pixel that the triangle covers the exact value lies between the values at the vertices: it is their mean, weighted by edge values
 -- that are not below zero and whose sum is the doubled area. So the plane's value is above the least of the three and less than a unit and
 -- a part above the greatest, in units of the top half; it is the word that the drawing takes, and its top half is between them.
-use Prim.Native.Nat.{ℕ, zero, suc, _+_, _*_, _/_, _≤_, _<_}
-use mathlib.Core.Path.{_≡_, refl, sym, _∙_, ap, ap₂, subst}
+use Prim.Native.Nat.{ℕ, suc, _+_, _*_, _≤_, _<_}
+use mathlib.Core.Path.{_≡_, sym, _∙_, ap, subst}
 use mathlib.Core.Bool.{true}
 use mathlib.Core.List.{List, [], _∷_}
 use native.Mathlib.Nat.{mul-add, lt-of-mul-lt-mul-left, le-of-mul-le-mul-left, mod-eq-of-lt}
 use native.Mathlib.Omega.{arith}
-use lib.IntN.{ℤ, pos, negsuc, natAbs, _+ℤ_, _-ℤ_, _*ℤ_}
+use lib.IntN.{ℤ, pos, negsuc, natAbs, _+ℤ_, _*ℤ_}
 use lib.Signed.{_≤ℤ_, _<ℤ_}
 use Rattle.ints.specs.Modulo.{mod32}
 use Rattle.ints.proofs.Poly.{var, con, _⊕_, _⊖_, _⊗_, solve}
-use Rattle.ints.proofs.Order.{is-self, is-times, is-pos, is-lt, is-le, lt-is, le-is, eq-is, up, dn, successor, le-of, le-to, lt-of, lt-to, eq-to}
-use Rattle.ints.proofs.Order.{sub-nonneg, mul-nonneg, +ℤ-mono}
+use Rattle.ints.proofs.Order.{is-self, is-times, is-pos, is-lt, is-le, lt-is, le-is, eq-is, up, dn, successor, le-of, le-to, lt-of, lt-to}
+use Rattle.ints.proofs.Order.{sub-nonneg, mul-nonneg}
 use Rattle.ints.proofs.Modulo.{mod32-pos}
 use Rattle.rules.specs.declared.Plane.{Plane}
 use Rattle.rules.specs.declared.Vertices.{Vertices}
-use Rattle.rules.specs.declared.Triangle.{Triangle}
 use Rattle.rules.specs.Triangles.{Point, sample, edge1, edge2, edge3, edgeValue, insideAll, doubledArea, planeAt, topHalf}
 use Rattle.rules.proofs.Closing.{no-value-below}
 use Rattle.order.proofs.Area.{values-sum}
 use Rattle.interpolation.specs.declared.Values.{Values}
 use Rattle.interpolation.specs.Interpolation.{numerator, inUnits, raise}
-use Rattle.interpolation.specs.Nearness.{valueAt, planeTimes, exactTimes, Near, From}
+use Rattle.interpolation.specs.Nearness.{valueAt, planeTimes, Near, From}
 use Rattle.interpolation.proofs.Cramer.{weighted}
 
 -- a positive factor may be left out of an order

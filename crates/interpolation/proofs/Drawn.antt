@@ -1,17 +1,16 @@
 -- A triangle whose depth is the plane through three values, drawn: from the two calls' contracts alone. At every pixel that it covers the
 -- plane is near the exact value and is the word that the drawing takes, and the depth drawn is its top half, between the three values. Of
 -- a colour's planes the same holds, so no part of a colour wraps.
-use Prim.Native.Nat.{ℕ, zero, suc, _%_, _≤_, _<_}
-use mathlib.Core.Path.{_≡_, refl, sym, _∙_, ap, subst}
-use mathlib.Core.Bool.{Bool, true, false, _&&_, false≢true}
+use Prim.Native.Nat.{ℕ, _%_, _≤_, _<_}
+use mathlib.Core.Path.{_≡_, sym, _∙_, ap, subst}
+use mathlib.Core.Bool.{true}
 use mathlib.Core.List.{List}
 use native.Mathlib.Nat.{mod-eq-of-lt, lt-of-le-of-lt}
 use native.Mathlib.Omega.{arith}
-use lib.IntN.{ℤ, pos, negsuc, natAbs}
-use lib.Dec.{lt→ltb}
+use lib.IntN.{ℤ, pos, natAbs}
 use borrow.Author.Tests.{leb-true}
 use lib.ListN.{length}
-use lib.Signed.{leZ, _≤ℤ_, _<ℤ_, ltZ-yes}
+use lib.Signed.{leZ, _≤ℤ_, _<ℤ_}
 use Rattle.ints.proofs.Order.{leZ-true}
 use Rattle.rules.specs.declared.Screen.{Screen}
 use Rattle.rules.specs.declared.Plane.{Plane}
@@ -19,7 +18,7 @@ use Rattle.rules.specs.declared.Vertices.{Vertices}
 use Rattle.rules.specs.declared.Triangle.{Triangle}
 use Rattle.rules.specs.declared.Drawn.{Drawn}
 use Rattle.rules.specs.Sizes.{groups, height, sizeInRange, soundAreas, sound, depthAt}
-use Rattle.rules.specs.Triangles.{positive, doubledArea, sample, insideAll, covered, atMostStored, written, triangleDepth, planeAt, topHalf}
+use Rattle.rules.specs.Triangles.{doubledArea, sample, insideAll, covered, atMostStored, written, triangleDepth, planeAt, topHalf}
 use Rattle.rules.specs.Calls.{Draws}
 use Rattle.rules.proofs.Choices.{and-true, accepted-yes}
 use Rattle.rules.proofs.Strips.{and-l, and-r}
@@ -33,14 +32,9 @@ use Rattle.interpolation.specs.declared.Through.{Through}
 use Rattle.interpolation.specs.Interpolation.{planeThrough, valueInRange, throughNumber, zeros, PassesThrough}
 use Rattle.interpolation.specs.Nearness.{valueAt, Near, From}
 use Rattle.interpolation.specs.Refusals.{HasPlane}
-use Rattle.interpolation.proofs.Numbers.{through-numbers}
+use Rattle.interpolation.proofs.Numbers.{positive-lt, through-numbers}
 use Rattle.interpolation.proofs.Nearness.{near}
 use Rattle.interpolation.proofs.Between.{plane-word, plane-most, top-half-between}
-
-positive-lt : (z : ℤ) → positive z ≡ true → pos 0 <ℤ z
-positive-lt (pos zero) e = absurd (false≢true e)
-positive-lt (pos (suc n)) e = ltZ-yes (lt→ltb 0 (suc n) (omega arith))
-positive-lt (negsuc n) e = absurd (false≢true e)
 
 -- a pixel of a screen in range
 module _ (s : Screen) (h : sizeInRange (s .size) ≡ true) where

@@ -1,4 +1,4 @@
--- The same value at each vertex gives a plane without steps, which is above the exact value by 1,119 units at every pixel: so much is needed.
+-- The same value at each vertex gives a plane without steps, above the exact value by 1,119 units at every pixel: the bound is attained.
 use Prim.Native.Nat.{ℕ}
 use mathlib.Core.Path.{_≡_, sym, _∙_, ap}
 use mathlib.Core.List.{List, [], _∷_}

@@ -1,20 +1,20 @@
 -- The plane is above the exact value at every pixel of the largest screen, and by at most 1,119 units: each of the three numbers loses less
 -- than one by rounding, c once, a once for each column and b once for each row, 1 + 639 + 479 times at most, and c is raised by as much.
 use Prim.Native.Nat.{ℕ, zero, suc, _+_, _*_, _≤_, _<_}
-use mathlib.Core.Path.{_≡_, refl, sym, _∙_, ap, ap₂, subst}
+use mathlib.Core.Path.{_≡_, _∙_, ap, ap₂}
 use mathlib.Core.List.{List, [], _∷_}
 use native.Mathlib.Nat.{mul-le-mul}
 use native.Mathlib.Omega.{arith}
 use lib.IntN.{ℤ, pos, negsuc, _+ℤ_, _*ℤ_}
-use lib.Signed.{_≤ℤ_, _<ℤ_}
-use Rattle.ints.proofs.Poly.{var, con, _⊕_, _⊖_, _⊗_, solve}
+use lib.Signed.{_<ℤ_}
+use Rattle.ints.proofs.Poly.{var, con, _⊕_, _⊗_, solve}
 use Rattle.ints.proofs.Order.{is-pos, is-self, is-lt, lt-is, le-of, lt-of, lt-to, eq-to}
 use Rattle.rules.specs.declared.Vertices.{Vertices}
 use Rattle.rules.specs.Triangles.{sample, doubledArea}
 use Rattle.interpolation.specs.declared.Values.{Values}
 use Rattle.interpolation.specs.Interpolation.{numeratorA, numeratorB, numerator, inUnits, raise, roundedDown}
 use Rattle.interpolation.specs.Interpolation.{throughA, throughB, throughC, planeThrough}
-use Rattle.interpolation.specs.Nearness.{valueAt, planeTimes, exactTimes, Near}
+use Rattle.interpolation.specs.Nearness.{planeTimes, exactTimes, Near}
 use Rattle.interpolation.proofs.Cramer.{stepped}
 use Rattle.interpolation.proofs.Rounding.{rounded-down, Left, left-over}
 
@@ -37,21 +37,28 @@ lost (pos (suc k)) m n o x y hm hn ho hx hy =
     is-lt (is-pos (m + n * x + o * y)) (is-self (pos (suc k) *ℤ raise)) (omega (arith, hm′, p, q))
 
 -- three quotients rounded down, and the plane that they make
-module _ (d n a b : ℤ) (x y : ℕ) {q p s : ℤ} (l : Left (inUnits n) d q) (i : Left (inUnits (pos 8 *ℤ a)) d p) (j : Left (inUnits (pos 8 *ℤ b)) d s) where
-  summed : inUnits (n +ℤ pos 8 *ℤ a *ℤ pos x +ℤ pos 8 *ℤ b *ℤ pos y) +ℤ d *ℤ raise
-      ≡ d *ℤ (q +ℤ raise +ℤ p *ℤ pos x +ℤ s *ℤ pos y) +ℤ pos (l .over + i .over * x + j .over * y)
-  summed =
-      solve (n ∷ a ∷ b ∷ pos x ∷ pos y ∷ d ∷ [])
-      (con (pos 65536) ⊗ (var 0 ⊕ con (pos 8) ⊗ var 1 ⊗ var 3 ⊕ con (pos 8) ⊗ var 2 ⊗ var 4) ⊕ var 5 ⊗ con raise)
-      (con (pos 65536) ⊗ var 0 ⊕ con (pos 65536) ⊗ (con (pos 8) ⊗ var 1) ⊗ var 3
-      ⊕ con (pos 65536) ⊗ (con (pos 8) ⊗ var 2) ⊗ var 4 ⊕ var 5 ⊗ con raise)
-      tt
-      ∙ ap (λ (z : ℤ). z +ℤ d *ℤ raise)
-      (ap₂ _+ℤ_ (ap₂ _+ℤ_ (l .whole) (ap (λ (z : ℤ). z *ℤ pos x) (i .whole))) (ap (λ (z : ℤ). z *ℤ pos y) (j .whole)))
-      ∙ solve (d ∷ q ∷ p ∷ s ∷ pos (l .over) ∷ pos (i .over) ∷ pos (j .over) ∷ pos x ∷ pos y ∷ [])
-      (var 0 ⊗ var 1 ⊕ var 4 ⊕ (var 0 ⊗ var 2 ⊕ var 5) ⊗ var 7 ⊕ (var 0 ⊗ var 3 ⊕ var 6) ⊗ var 8 ⊕ var 0 ⊗ con raise)
-      (var 0 ⊗ (var 1 ⊕ con raise ⊕ var 2 ⊗ var 7 ⊕ var 3 ⊗ var 8) ⊕ (var 4 ⊕ var 5 ⊗ var 7 ⊕ var 6 ⊗ var 8))
-      tt
+module _
+    (d n a b : ℤ)
+    (x y : ℕ)
+    {q p s : ℤ}
+    (l : Left (inUnits n) d q)
+    (i : Left (inUnits (pos 8 *ℤ a)) d p)
+    (j : Left (inUnits (pos 8 *ℤ b)) d s)
+  where
+    summed : inUnits (n +ℤ pos 8 *ℤ a *ℤ pos x +ℤ pos 8 *ℤ b *ℤ pos y) +ℤ d *ℤ raise
+        ≡ d *ℤ (q +ℤ raise +ℤ p *ℤ pos x +ℤ s *ℤ pos y) +ℤ pos (l .over + i .over * x + j .over * y)
+    summed =
+        solve (n ∷ a ∷ b ∷ pos x ∷ pos y ∷ d ∷ [])
+        (con (pos 65536) ⊗ (var 0 ⊕ con (pos 8) ⊗ var 1 ⊗ var 3 ⊕ con (pos 8) ⊗ var 2 ⊗ var 4) ⊕ var 5 ⊗ con raise)
+        (con (pos 65536) ⊗ var 0 ⊕ con (pos 65536) ⊗ (con (pos 8) ⊗ var 1) ⊗ var 3
+        ⊕ con (pos 65536) ⊗ (con (pos 8) ⊗ var 2) ⊗ var 4 ⊕ var 5 ⊗ con raise)
+        tt
+        ∙ ap (λ (z : ℤ). z +ℤ d *ℤ raise)
+        (ap₂ _+ℤ_ (ap₂ _+ℤ_ (l .whole) (ap (λ (z : ℤ). z *ℤ pos x) (i .whole))) (ap (λ (z : ℤ). z *ℤ pos y) (j .whole)))
+        ∙ solve (d ∷ q ∷ p ∷ s ∷ pos (l .over) ∷ pos (i .over) ∷ pos (j .over) ∷ pos x ∷ pos y ∷ [])
+        (var 0 ⊗ var 1 ⊕ var 4 ⊕ (var 0 ⊗ var 2 ⊕ var 5) ⊗ var 7 ⊕ (var 0 ⊗ var 3 ⊕ var 6) ⊗ var 8 ⊕ var 0 ⊗ con raise)
+        (var 0 ⊗ (var 1 ⊕ con raise ⊕ var 2 ⊗ var 7 ⊕ var 3 ⊗ var 8) ⊕ (var 4 ⊕ var 5 ⊗ var 7 ⊕ var 6 ⊗ var 8))
+        tt
 
 module _ (v : Vertices) (r : Values) (h : pos 0 <ℤ doubledArea v) where
   abbrev pub Rest : ℤ → Type 0

@@ -2,7 +2,7 @@
 -- That it is not too much either, a flat plane shows (`flat-attains`). Both numbers are computed.
 use mathlib.Core.Path.{_≡_, refl}
 use mathlib.Core.Bool.{true}
-use lib.IntN.{ℤ, pos, negsuc, _-ℤ_}
+use lib.IntN.{pos, negsuc, _-ℤ_}
 use lib.Signed.{_<ℤ_}
 use Rattle.rules.specs.declared.Screen.{Screen}
 use Rattle.rules.specs.declared.Plane.{Plane}
@@ -11,7 +11,8 @@ use Rattle.rules.specs.declared.Triangle.{Triangle}
 use Rattle.rules.specs.Triangles.{sample, edgeValue, keepsZero, inside, insideAll, doubledArea, covered}
 use Rattle.rules.specs.Numbers.{verticesInRange}
 use Rattle.interpolation.specs.declared.Values.{Values}
-use Rattle.interpolation.specs.Interpolation.{numeratorA, numeratorB, numeratorC, numerator, roundedDown, throughC, throughA, throughB}
+use Rattle.interpolation.specs.Interpolation.{numeratorA, numeratorB, numeratorC, numerator, roundedDown}
+use Rattle.interpolation.specs.Interpolation.{throughC, throughA, throughB}
 use Rattle.interpolation.specs.Interpolation.{planeThrough, valuesInRange, planeInRange, hasNoPlane, throughNumber, zeros}
 use Rattle.interpolation.specs.Nearness.{planeTimes, exactTimes}
 

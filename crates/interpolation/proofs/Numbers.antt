@@ -1,8 +1,11 @@
 -- The numbers 0, 6 and 9, each exactly when: the definition's tests, looked at one by one.
-use Prim.Native.Nat.{ℕ}
-use mathlib.Core.Path.{_≡_, refl, sym, _∙_, ap}
+use Prim.Native.Nat.{zero, suc}
+use mathlib.Core.Path.{_≡_, refl, sym, _∙_}
 use mathlib.Core.Bool.{Bool, true, false, _&&_, _||_, not, false≢true}
 use native.Mathlib.Omega.{arith}
+use lib.Dec.{lt→ltb}
+use lib.IntN.{ℤ, pos, negsuc}
+use lib.Signed.{_<ℤ_, ltZ-yes}
 use Rattle.rules.specs.declared.Vertices.{Vertices}
 use Rattle.rules.specs.Folds.{choose}
 use Rattle.rules.specs.Triangles.{positive, doubledArea}
@@ -10,7 +13,14 @@ use Rattle.rules.specs.Numbers.{verticesInRange, inSigned32}
 use Rattle.interpolation.specs.declared.Values.{Values}
 use Rattle.interpolation.specs.Interpolation.{throughC, throughA, throughB, planeThrough, valueInRange, valuesInRange}
 use Rattle.interpolation.specs.Interpolation.{planeInRange, hasNoPlane, throughNumber}
-use Rattle.interpolation.specs.Refusals.{HasPlane, Lacks, first-value, second-value, third-value, area, c-outside, a-outside, b-outside}
+use Rattle.interpolation.specs.Refusals.{HasPlane, Lacks, first-value, second-value, third-value, area}
+use Rattle.interpolation.specs.Refusals.{c-outside, a-outside, b-outside}
+
+-- the test of the area, and the order that it decides
+pub positive-lt : (z : ℤ) → positive z ≡ true → pos 0 <ℤ z
+positive-lt (pos zero) e = absurd (false≢true e)
+positive-lt (pos (suc n)) e = ltZ-yes (lt→ltb 0 (suc n) (omega arith))
+positive-lt (negsuc n) e = absurd (false≢true e)
 
 module _ (v : Vertices) (r : Values) where
   -- what has no plane lacks a part, and what lacks none has one

@@ -1,6 +1,6 @@
 -- `roundedDown` rounds down, and nothing else does: what is left over is a natural number below the divisor. By cases on the sign.
-use Prim.Native.Nat.{ℕ, suc, _+_, _*_, _/_, _%_, _≤_, _<_}
-use mathlib.Core.Path.{_≡_, refl, sym, _∙_, ap, subst}
+use Prim.Native.Nat.{ℕ, suc, _+_, _*_, _/_, _%_, _<_}
+use mathlib.Core.Path.{_≡_, sym, _∙_, ap, subst}
 use mathlib.Core.List.{List, [], _∷_}
 use native.Mathlib.Nat.{mul-add, mul-suc, mul-one, mod-lt, div-add-mod, lt-of-mul-lt-mul-left}
 use native.Mathlib.Omega.{arith}
@@ -40,13 +40,16 @@ module _ (k : ℕ) where
         greatest = is-lt (is-negsuc n) (is-add (times q) (is-pos (suc k))) (omega (arith, s, m, t));
       }
 
+  one-more : (n : ℕ) → suc k * (n + 1) ≡ suc k * n + suc k
+  one-more n = mul-add (suc k) n 1 ∙ ap (λ (j : ℕ). suc k * n + j) (mul-one (suc k))
+
   -- of two, neither is above the other
   no-more : {n q p : ℤ} → RoundsDown n d q → RoundsDown n d p → q ≤ℤ p
   no-more {n} {q} {p} h g =
       let l = le-is (times q) (is-self n) (h .not-above) in
       let u = lt-is (is-self n) (is-add (times p) (is-pos (suc k))) (g .greatest) in
       let e : suc k * (up q + dn p) ≡ suc k * up q + suc k * dn p = mul-add (suc k) (up q) (dn p) in
-      let f : suc k * (up p + dn q + 1) ≡ suc k * (up p + dn q) + suc k = mul-add (suc k) (up p + dn q) 1 ∙ ap (λ (j : ℕ). suc k * (up p + dn q) + j) (mul-one (suc k)) in
+      let f : suc k * (up p + dn q + 1) ≡ suc k * (up p + dn q) + suc k = one-more (up p + dn q) in
       let i : suc k * (up p + dn q) ≡ suc k * up p + suc k * dn q = mul-add (suc k) (up p) (dn q) in
       let r : up q + dn p < up p + dn q + 1 = lt-of-mul-lt-mul-left (suc k) (omega (arith, l, u, e, f, i)) in
       is-le (is-self q) (is-self p) (omega (arith, r))

@@ -1,8 +1,8 @@
 -- What the call answers once its tests are known: 6, 9 or the plane.
 use Prim.Native.Nat.{ℕ, zero, suc}
-use mathlib.Core.Path.{_≡_, refl, sym, _∙_, ap}
+use mathlib.Core.Path.{_≡_, refl, sym, _∙_}
 use mathlib.Core.Logic.{_≢_}
-use mathlib.Core.Bool.{Bool, true, false, _&&_, _||_, not, false≢true}
+use mathlib.Core.Bool.{Bool, true, false, _&&_, not}
 use native.Mathlib.Omega.{arith}
 use lib.IntN.{ℤ, pos, negsuc}
 use lib.Signed.{leZ, _<ℤ_}
@@ -10,7 +10,7 @@ use mir.Syntax.{w32}
 use mir.Val.{SFits}
 use borrow.Author.Needs.{sfits-of}
 use borrow.Author.Tests.{lt-leb, leb-true}
-use Rattle.ints.proofs.Order.{is-pos, is-lt, lt-is}
+use Rattle.ints.proofs.Order.{is-pos, lt-is}
 use Rattle.rules.specs.declared.Vertices.{Vertices}
 use Rattle.rules.specs.Triangles.{positive, doubledArea}
 use Rattle.rules.specs.Numbers.{verticesInRange, inSigned32}
@@ -33,11 +33,6 @@ pub lt-positive : (z : ℤ) → pos 0 <ℤ z → positive z ≡ true
 lt-positive (pos zero) h = absurd (omega (arith, lt-is (is-pos 0) (is-pos 0) h))
 lt-positive (pos (suc n)) h = refl
 lt-positive (negsuc n) h = absurd (h .lt)
-
-pub positive-lt : (z : ℤ) → positive z ≡ true → pos 0 <ℤ z
-positive-lt (pos zero) h = absurd (false≢true h)
-positive-lt (pos (suc n)) h = is-lt (is-pos 0) (is-pos (suc n)) (omega arith)
-positive-lt (negsuc n) h = absurd (false≢true h)
 
 module _ (v : Vertices) (r : Values) where
   pub number-6 : verticesInRange v ≡ false → throughNumber v r ≡ 6

@@ -1,10 +1,10 @@
 -- Vertex numbers are within 8,192 and values within 32,767, so the doubled area, the numerators and what is divided are well inside 64
 -- bits; and what a callee reads from the machine's words is what was given. By bounds that add and multiply.
 use Prim.Native.Nat.{ℕ, _^_, _≤_}
-use mathlib.Core.Path.{_≡_, refl, sym, _∙_, ap, subst}
+use mathlib.Core.Path.{_≡_, sym, _∙_, subst}
 use mathlib.Core.Bool.{true, _&&_}
 use native.Mathlib.Omega.{arith}
-use lib.IntN.{ℤ, pos, negsuc, natAbs, _+ℤ_, _-ℤ_, _*ℤ_}
+use lib.IntN.{ℤ, pos, natAbs, _*ℤ_}
 use lib.Signed.{leZ, _<ℤ_}
 use lib.Dec.{T, ltb}
 use mir.Syntax.{w32, w64}
@@ -15,14 +15,14 @@ use Rattle.ints.proofs.Bounds.{fits-32, Within, within-range, within-lit, withi
 use Rattle.ints.proofs.Machine.{Got, got-in}
 use Rattle.rules.specs.declared.Vertices.{Vertices}
 use Rattle.rules.specs.Triangles.{sample, doubledArea}
-use Rattle.rules.specs.Numbers.{verticesInRange, vertexInRange}
+use Rattle.rules.specs.Numbers.{verticesInRange}
 use Rattle.rules.proofs.Choices.{and-true}
 use Rattle.edges.proofs.Within.{six, vertex-within}
 use Rattle.interpolation.specs.declared.Values.{Values}
 use Rattle.interpolation.specs.Interpolation.{valueInRange, valuesInRange, numeratorA, numeratorB, numerator}
 use Rattle.interpolation.specs.Interpolation.{inUnits, raise, roundedDown, throughA, throughB, throughC}
 use Rattle.interpolation.proofs.Cramer.{a-by-differences, b-by-differences, by-differences}
-use Rattle.through.specs.Through.{Small, cross, Divides}
+use Rattle.through.specs.Through.{InRange, Solvable, Small, determinant, Divides, Divisible}
 
 pub record VerticesWithin (v : Vertices) : Type 0 where
   pub x1 : Within 8192 (v .x1)
@@ -61,6 +61,13 @@ values-within r h =
     let a = and-true {a = valueInRange (r .r1)} {b = valueInRange (r .r2)} (b .0) in
     record { r1 = value-within (r .r1) (a .0); r2 = value-within (r .r2) (a .1); r3 = value-within (r .r3) (b .1) }
 
+pub record AllWithin (v : Vertices) (r : Values) : Type 0 where
+  pub vertices : VerticesWithin v
+  pub values : ValuesWithin r
+
+pub all-within : (v : Vertices) (r : Values) → InRange v r → AllWithin v r
+all-within v r h = record { vertices = vertices-within v (h .vertices); values = values-within r (h .values) }
+
 -- what is worked out of them
 
 pub area-within : (v : Vertices) → VerticesWithin v → Within 536870912 (doubledArea v)
@@ -70,7 +77,13 @@ area-within v w =
     (within-mul (within-sub (w .x2) (w .x1)) (within-sub (w .y3) (w .y1)))
     (within-mul (within-sub (w .x3) (w .x1)) (within-sub (w .y2) (w .y1)))
 
-module _ (v : Vertices) (r : Values) (w : VerticesWithin v) (u : ValuesWithin r) where
+module _ (v : Vertices) (r : Values) (h : AllWithin v r) where
+  abbrev w : VerticesWithin v
+  w = h .vertices
+
+  abbrev u : ValuesWithin r
+  u = h .values
+
   pub a-within : Within 2147418112 (numeratorA v r)
   a-within =
       subst (Within 2147418112) (sym (a-by-differences v r))
@@ -113,10 +126,10 @@ small {n} {a} {b} {c} ha hb hc l = record { first = one ha; second = one hb; thi
     one : {z : ℤ} → Within n z → natAbs (toZ w32 (ofZ w32 z)) ≤ 32767
     one {z} h = subst (λ (y : ℤ). natAbs y ≤ 32767) (sym (read h (omega (arith, l)))) (within-le l h .within)
 
--- what `cross` answers of six such numbers
-pub cross-answer : {m n : ℕ} {z a b c d e f : ℤ}
+-- what `determinant` answers of six such numbers
+pub determinant-answer : {m n : ℕ} {z a b c d e f : ℤ}
     → z
-    ≡ cross
+    ≡ determinant
     (toZ w32 (ofZ w32 a)) (toZ w32 (ofZ w32 b)) (toZ w32 (ofZ w32 c))
     (toZ w32 (ofZ w32 d)) (toZ w32 (ofZ w32 e)) (toZ w32 (ofZ w32 f))
     → Within m a
@@ -127,11 +140,11 @@ pub cross-answer : {m n : ℕ} {z a b c d e f : ℤ}
     → Within n f
     → m ≤ 32767
     → n ≤ 32767
-    → z ≡ cross a b c d e f
-cross-answer {m} {n} h ha hb hc hd he hf l k =
+    → z ≡ determinant a b c d e f
+determinant-answer {m} {n} h ha hb hc hd he hf l k =
     let p : m ≤ 2147483647 = omega (arith, l) in
     let q : n ≤ 2147483647 = omega (arith, k) in
-    h ∙ (λ i. cross (read ha p i) (read hb p i) (read hc p i) (read hd q i) (read he q i) (read hf q i))
+    h ∙ (λ i. determinant (read ha p i) (read hb p i) (read hc p i) (read hd q i) (read he q i) (read hf q i))
 
 -- a quotient, of numbers that the machine has
 
@@ -145,27 +158,34 @@ divides {n} {d} p q h l = record {
   some = subst (λ (z : ℤ). pos 0 <ℤ z) (sym q) l;
 }
 
+-- in units
+
+pub units-within : {n : ℤ} (v : Vertices)
+    → Within 52792126865408 n
+    → Within 3459784826251378688 (roundedDown (inUnits n) (doubledArea v))
+units-within v h = rounded-within (doubledArea v) (within-mul (within-lit {n = 65536} {z = pos 65536} tt) h)
+
+pub divisible : {n z : ℤ} {v : Vertices} {r : Values} → Solvable v r → z ≡ n → Within 52792126865408 n → Divisible z v
+divisible h e w = record {
+  small = subst (λ (y : ℤ). natAbs y ≤ 52792126865408) (sym e) (w .within);
+  vertices = h .in-range .vertices;
+  area = h .area;
+}
+
+pub in-eights : {n : ℤ} → Within 2147418112 n → Within 52792126865408 (pos 8 *ℤ n)
+in-eights h = within-le (omega arith) (within-mul (within-lit {n = 8} {z = pos 8} tt) h)
+
 -- the three numbers, before it is known whether they fit 32 bits
 
-module _ (v : Vertices) (r : Values) (w : VerticesWithin v) (u : ValuesWithin r) where
-  pub c-small : Within 4611686018427387904 (throughC v r)
+module _ (v : Vertices) (r : Values) (h : AllWithin v r) where
+  pub c-small : Within 3459784826251379807 (throughC v r)
   unfolding throughC
-  c-small =
-      within-le (omega arith)
-      (within-add
-      (rounded-within (doubledArea v) (within-mul (within-lit {n = 65536} {z = pos 65536} tt) (numerator-within v r w u)))
-      (within-lit {n = 1119} {z = raise} tt))
+  c-small = within-add (units-within v (numerator-within v r h)) (within-lit {n = 1119} {z = raise} tt)
 
-  step-small : {n : ℤ} → Within 2147418112 n → Within 4611686018427387904 (roundedDown (inUnits (pos 8 *ℤ n)) (doubledArea v))
-  step-small h =
-      within-le (omega arith)
-      (rounded-within (doubledArea v)
-      (within-mul (within-lit {n = 65536} {z = pos 65536} tt) (within-mul (within-lit {n = 8} {z = pos 8} tt) h)))
-
-  pub a-small : Within 4611686018427387904 (throughA v r)
+  pub a-small : Within 3459784826251378688 (throughA v r)
   unfolding throughA
-  a-small = step-small (a-within v r w u)
+  a-small = units-within v (in-eights (a-within v r h))
 
-  pub b-small : Within 4611686018427387904 (throughB v r)
+  pub b-small : Within 3459784826251378688 (throughB v r)
   unfolding throughB
-  b-small = step-small (b-within v r w u)
+  b-small = units-within v (in-eights (b-within v r h))

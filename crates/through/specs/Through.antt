@@ -26,14 +26,20 @@ pub record Small (a b c : ℤ) : Type 0 where
   pub second : natAbs b ≤ 32767
   pub third : natAbs c ≤ 32767
 
--- twice the area of the triangle (p1, q1), (p2, q2), (p3, q3)
-abbrev pub cross : ℤ → ℤ → ℤ → ℤ → ℤ → ℤ → ℤ
-cross p1 p2 p3 q1 q2 q3 = (p2 -ℤ p1) *ℤ (q3 -ℤ q1) -ℤ (p3 -ℤ p1) *ℤ (q2 -ℤ q1)
+-- the determinant of the rows (p1, q1, 1), (p2, q2, 1) and (p3, q3, 1), by differences from the first
+abbrev pub determinant : ℤ → ℤ → ℤ → ℤ → ℤ → ℤ → ℤ
+determinant p1 p2 p3 q1 q2 q3 = (p2 -ℤ p1) *ℤ (q3 -ℤ q1) -ℤ (p3 -ℤ p1) *ℤ (q2 -ℤ q1)
 
 -- a positive divisor, and a number well inside 64 bits
 pub record Divides (n d : ℤ) : Type 0 where
   pub small : natAbs n ≤ 4611686018427387904
   pub some : pos 0 <ℤ d
+
+-- a numerator, over the doubled area
+pub record Divisible (n : ℤ) (v : Vertices) : Type 0 where
+  pub small : natAbs n ≤ 52792126865408
+  pub vertices : verticesInRange v ≡ true
+  pub area : pos 0 <ℤ doubledArea v
 
 pub record Refuses (number : ℕ) (answer : Through) : Type 0 where
   pub answers : answer .number ≡ number

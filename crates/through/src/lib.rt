@@ -9,8 +9,8 @@ ghost use mathlib.Core.Path.{_≡_};
 ghost use mathlib.Core.Bool.{true};
 ghost use Rattle.rules.specs.Triangles.{doubledArea, sample};
 ghost use Rattle.rules.specs.Numbers.{inSigned32, verticesInRange};
-ghost use Rattle.interpolation.specs.Interpolation.{PassesThrough, numerator, numeratorA, numeratorB, roundedDown, throughA, throughB, throughC, valueInRange, valuesInRange};
-ghost use Rattle.through.specs.Through.{Divides, InRange, Refuses, Small, Solvable, cross};
+ghost use Rattle.interpolation.specs.Interpolation.{PassesThrough, inUnits, numerator, numeratorA, numeratorB, roundedDown, throughA, throughB, throughC, valueInRange, valuesInRange};
+ghost use Rattle.through.specs.Through.{Divides, Divisible, InRange, Refuses, Small, Solvable, determinant};
 
 // How much c is raised: as much as three roundings can lose at the last pixel, 1 + 639 + 479.
 const RAISE: i64 = 1119;
@@ -29,10 +29,10 @@ fn values_in_range(r: Values) -> bool
     value_in_range(r.r1) & value_in_range(r.r2) & value_in_range(r.r3)
 }
 
-// What twice an area, A's numerator and B's have in common: two products of differences from the first of three.
-fn cross(p1: i32, p2: i32, p3: i32, q1: i32, q2: i32, q3: i32) -> i64
+// Cramer's determinants, of which the doubled area and the numerators of A and B are one each: by differences from the first row, two products.
+fn determinant(p1: i32, p2: i32, p3: i32, q1: i32, q2: i32, q3: i32) -> i64
     requires { ⌜ (Small p1 p2 p3) × (Small q1 q2 q3) ⌝ }
-    ensures { λ z. ⌜ z ≡ cross p1 p2 p3 q1 q2 q3 ⌝ }
+    ensures { λ z. ⌜ z ≡ determinant p1 p2 p3 q1 q2 q3 ⌝ }
 {
     let p = p1 as i64;
     let q = q1 as i64;
@@ -43,21 +43,21 @@ fn doubled_area(v: Vertices) -> i64
     requires { ⌜ verticesInRange v ≡ true ⌝ }
     ensures { λ d. ⌜ d ≡ doubledArea v ⌝ }
 {
-    cross(v.x1, v.x2, v.x3, v.y1, v.y2, v.y3)
+    determinant(v.x1, v.x2, v.x3, v.y1, v.y2, v.y3)
 }
 
 fn numerator_a(v: Vertices, r: Values) -> i64
     requires { ⌜ InRange v r ⌝ }
     ensures { λ n. ⌜ n ≡ numeratorA v r ⌝ }
 {
-    cross(r.r1, r.r2, r.r3, v.y1, v.y2, v.y3)
+    determinant(r.r1, r.r2, r.r3, v.y1, v.y2, v.y3)
 }
 
 fn numerator_b(v: Vertices, r: Values) -> i64
     requires { ⌜ InRange v r ⌝ }
     ensures { λ n. ⌜ n ≡ numeratorB v r ⌝ }
 {
-    cross(v.x1, v.x2, v.x3, r.r1, r.r2, r.r3)
+    determinant(v.x1, v.x2, v.x3, r.r1, r.r2, r.r3)
 }
 
 // At the sample point of pixel (0, 0): the first value, and the way there from the first vertex.
@@ -98,25 +98,33 @@ fn refused(number: u32) -> Through
     }
 }
 
+// Over the doubled area, in units, rounded down.
+fn in_units(n: i64, v: Vertices) -> i64
+    requires { ⌜ Divisible n v ⌝ }
+    ensures { λ q. ⌜ q ≡ roundedDown (inUnits n) (doubledArea v) ⌝ }
+{
+    rounded_down(65536 * n, doubled_area(v))
+}
+
 fn through_c(v: Vertices, r: Values) -> i64
     requires { ⌜ Solvable v r ⌝ }
     ensures { λ c. ⌜ c ≡ throughC v r ⌝ }
 {
-    rounded_down(65536 * numerator(v, r), doubled_area(v)) + RAISE
+    in_units(numerator(v, r), v) + RAISE
 }
 
 fn through_a(v: Vertices, r: Values) -> i64
     requires { ⌜ Solvable v r ⌝ }
     ensures { λ a. ⌜ a ≡ throughA v r ⌝ }
 {
-    rounded_down(65536 * (8 * numerator_a(v, r)), doubled_area(v))
+    in_units(8 * numerator_a(v, r), v)
 }
 
 fn through_b(v: Vertices, r: Values) -> i64
     requires { ⌜ Solvable v r ⌝ }
     ensures { λ b. ⌜ b ≡ throughB v r ⌝ }
 {
-    rounded_down(65536 * (8 * numerator_b(v, r)), doubled_area(v))
+    in_units(8 * numerator_b(v, r), v)
 }
 
 // The three numbers, or 9 where one does not fit.

@@ -1,20 +1,21 @@
--- The doubled area is `cross` of the columns and the rows, as it stands.
-use mathlib.Core.Path.{_∙_}
+-- The doubled area is `determinant` of the columns and the rows, as it stands.
 use native.Mathlib.Omega.{arith}
 use Rattle.rules.specs.Triangles.{doubledArea}
-use Rattle.through.proofs.Ranges.{VerticesWithin, vertices-within, area-within, answered, small, cross-answer}
+use Rattle.through.proofs.Ranges.{VerticesWithin, vertices-within, area-within, answered, small, determinant-answer}
 use Rattle.through.proofs.doubled_area.Statement.{statement}
 use Rattle.through.proofs.doubled_area.Tie as tie
 
 -- before the six numbers were read
 abbrev start : tie.After-struct-told6 → tie.Start
-start c = let third = c .before .before .before in third .before .before .before
+start c =
+    let third = c .before .before .before in
+    third .before .before .before
 
 within : (c : tie.Start) → VerticesWithin (c .args .v)
 within c = vertices-within (c .args .v) (c .pre)
 
-cross-requires : tie.Need-cross-requires
-cross-requires c κs =
+determinant-requires : tie.Need-determinant-requires
+determinant-requires c κs =
     let w = within (start c) in
     (small (w .x1) (w .x2) (w .x3) (omega arith), small (w .y1) (w .y2) (w .y3) (omega arith))
 
@@ -23,9 +24,9 @@ unfolding doubledArea
 returns c =
     let w = within (start (c .before)) in
     answered
-    (cross-answer (c .cross .ensures) (w .x1) (w .x2) (w .x3) (w .y1) (w .y2) (w .y3) (omega arith) (omega arith))
+    (determinant-answer (c .determinant .ensures) (w .x1) (w .x2) (w .x3) (w .y1) (w .y2) (w .y3) (omega arith) (omega arith))
     (area-within (start (c .before) .args .v) w)
     tt
 
 pub doubled-area-spec : {M : Type 1} → statement M
-doubled-area-spec = tie.close (tie.spec cross-requires returns)
+doubled-area-spec = tie.close (tie.spec determinant-requires returns)

@@ -6,27 +6,22 @@ use Rattle.rules.specs.Triangles.{sample}
 use Rattle.edges.proofs.Codes.{offsetC}
 use Rattle.interpolation.specs.Interpolation.{numerator}
 use Rattle.interpolation.proofs.Cramer.{by-differences}
-use Rattle.through.proofs.Ranges.{VerticesWithin, vertices-within, ValuesWithin, values-within}
-use Rattle.through.proofs.Ranges.{area-within, a-within, b-within, got-answer}
-use borrow.Author.Needs.{needs}
+use Rattle.through.proofs.Ranges.{AllWithin, all-within, area-within, a-within, b-within, got-answer}
 use Rattle.through.proofs.numerator.Statement.{statement}
 use Rattle.through.proofs.numerator.Tie as tie
 
 module _ (s : tie.Start) where
-  vertices : VerticesWithin (s .args .v)
-  vertices = vertices-within (s .args .v) (s .pre .vertices)
-
-  values : ValuesWithin (s .args .r)
-  values = values-within (s .args .r) (s .pre .values)
+  within : AllWithin (s .args .v) (s .args .r)
+  within = all-within (s .args .v) (s .args .r) (s .pre)
 
   abbrev x1C : Code w64
-  x1C = cast w64 (known (got-in {w = w32} (vertices .x1) tt))
+  x1C = cast w64 (known (got-in {w = w32} (within .vertices .x1) tt))
 
   abbrev y1C : Code w64
-  y1C = cast w64 (known (got-in {w = w32} (vertices .y1) tt))
+  y1C = cast w64 (known (got-in {w = w32} (within .vertices .y1) tt))
 
   abbrev r1C : Code w64
-  r1C = cast w64 (known (got-in {w = w32} (values .r1) tt))
+  r1C = cast w64 (known (got-in {w = w32} (within .values .r1) tt))
 
   abbrev rightC : Code w64
   rightC = offsetC ⊟ x1C
@@ -52,7 +47,7 @@ module _ (c : tie.After-doubled-area) where
   abbrev firstC : Code w64
   firstC =
       r1C start
-      ⊠ known (got-answer (c .doubled-area .ensures) (area-within (start .args .v) (vertices start)) tt)
+      ⊠ known (got-answer (c .doubled-area .ensures) (area-within (start .args .v) (within start .vertices)) tt)
 
 module _ (c : tie.After-numerator-a) where
   abbrev startA : tie.Start
@@ -61,7 +56,7 @@ module _ (c : tie.After-numerator-a) where
   abbrev secondC : Code w64
   secondC =
       known
-      (got-answer (c .numerator-a .ensures) (a-within (startA .args .v) (startA .args .r) (vertices startA) (values startA)) tt)
+      (got-answer (c .numerator-a .ensures) (a-within (startA .args .v) (startA .args .r) (within startA)) tt)
       ⊠ rightC startA
 
   abbrev twoC : Code w64
@@ -74,7 +69,7 @@ module _ (c : tie.After-numerator-b) where
   abbrev thirdC : Code w64
   thirdC =
       known
-      (got-answer (c .numerator-b .ensures) (b-within (startB .args .v) (startB .args .r) (vertices startB) (values startB)) tt)
+      (got-answer (c .numerator-b .ensures) (b-within (startB .args .v) (startB .args .r) (within startB)) tt)
       ⊠ downC startB
 
   abbrev allC : Code w64

@@ -1,37 +1,36 @@
--- A's numerator is `cross` of the values and the rows.
+-- A's numerator is the determinant of the values and the rows.
 use mathlib.Core.Path.{sym, _∙_}
 use native.Mathlib.Omega.{arith}
 use Rattle.interpolation.proofs.Cramer.{a-by-differences}
-use Rattle.through.proofs.Ranges.{VerticesWithin, vertices-within, ValuesWithin, values-within, a-within, answered, small, cross-answer}
+use Rattle.through.proofs.Ranges.{AllWithin, all-within, a-within, answered, small, determinant-answer}
 use Rattle.through.proofs.numerator_a.Statement.{statement}
 use Rattle.through.proofs.numerator_a.Tie as tie
 
 -- before the six numbers were read
 abbrev start : tie.After-struct-told6 → tie.Start
-start c = let third = c .before .before .before in third .before .before .before
+start c =
+    let third = c .before .before .before in
+    third .before .before .before
 
-vertices : (c : tie.Start) → VerticesWithin (c .args .v)
-vertices c = vertices-within (c .args .v) (c .pre .vertices)
+within : (s : tie.Start) → AllWithin (s .args .v) (s .args .r)
+within s = all-within (s .args .v) (s .args .r) (s .pre)
 
-values : (c : tie.Start) → ValuesWithin (c .args .r)
-values c = values-within (c .args .r) (c .pre .values)
-
-cross-requires : tie.Need-cross-requires
-cross-requires c κs =
-    let w = vertices (start c) in
-    let u = values (start c) in
+determinant-requires : tie.Need-determinant-requires
+determinant-requires c κs =
+    let w = within (start c) .vertices in
+    let u = within (start c) .values in
     (small (u .r1) (u .r2) (u .r3) (omega arith), small (w .y1) (w .y2) (w .y3) (omega arith))
 
 returns : tie.Need-returns
 returns c =
     let s = start (c .before) in
-    let w = vertices s in
-    let u = values s in
+    let w = within s .vertices in
+    let u = within s .values in
     answered
-    (cross-answer (c .cross .ensures) (u .r1) (u .r2) (u .r3) (w .y1) (w .y2) (w .y3) (omega arith) (omega arith)
+    (determinant-answer (c .determinant .ensures) (u .r1) (u .r2) (u .r3) (w .y1) (w .y2) (w .y3) (omega arith) (omega arith)
     ∙ sym (a-by-differences (s .args .v) (s .args .r)))
-    (a-within (s .args .v) (s .args .r) w u)
+    (a-within (s .args .v) (s .args .r) (within s))
     tt
 
 pub numerator-a-spec : {M : Type 1} → statement M
-numerator-a-spec = tie.close (tie.spec cross-requires returns)
+numerator-a-spec = tie.close (tie.spec determinant-requires returns)

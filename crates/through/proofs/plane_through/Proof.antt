@@ -1,6 +1,6 @@
 -- The tests in 02's order: 6 first, then the parts of 9 that are known before the plane is.
 use mathlib.Core.Path.{_≡_, sym, _∙_, ap}
-use mathlib.Core.Bool.{Bool, true, false, not}
+use mathlib.Core.Bool.{Bool, true, not}
 use native.Mathlib.Omega.{arith}
 use lib.IntN.{ℤ, pos}
 use lib.Signed.{leZ}
@@ -10,8 +10,9 @@ use borrow.Author.Tests.{not-true, not-false}
 use Rattle.rules.specs.Triangles.{positive, doubledArea}
 use Rattle.rules.specs.Numbers.{verticesInRange}
 use Rattle.interpolation.specs.Interpolation.{valuesInRange}
+use Rattle.interpolation.proofs.Numbers.{positive-lt}
 use Rattle.through.proofs.Ranges.{vertices-within, area-within, answered}
-use Rattle.through.proofs.Answers.{not-not, not-positive, positive-lt, number-6, number-9, values-outside, area-outside, refuses}
+use Rattle.through.proofs.Answers.{not-not, not-positive, number-6, number-9, values-outside, area-outside, refuses}
 use Rattle.through.proofs.plane_through.Statement.{statement}
 use Rattle.through.proofs.plane_through.Tie as tie
 

@@ -1,67 +1,38 @@
--- c is the numerator at pixel (0, 0), in units, over the doubled area: rounded down and raised.
-use mathlib.Core.Path.{_≡_, sym, _∙_, ap, ap₂}
-use native.Mathlib.Omega.{arith}
-use lib.IntN.{ℤ, pos, _*ℤ_}
+-- c is the numerator at pixel (0, 0), in units over the doubled area, raised.
+use mathlib.Core.Path.{_≡_, _∙_, ap}
+use lib.IntN.{ℤ}
 use mir.Syntax.{w64}
 use mir.Val.{toZ, ofZ}
-use Rattle.ints.proofs.Bounds.{within-le}
-use Rattle.ints.proofs.Machine.{got-lit, Code, known, _⊞_, _⊠_, need, got-of, reads-as}
+use Rattle.ints.proofs.Bounds.{Within}
+use Rattle.ints.proofs.Machine.{got-lit, Code, known, _⊞_, need, reads-as}
 use Rattle.rules.specs.Triangles.{sample, doubledArea}
 use Rattle.interpolation.specs.Interpolation.{numerator, inUnits, roundedDown, throughC}
-use Rattle.through.proofs.Ranges.{VerticesWithin, vertices-within, ValuesWithin, values-within, area-within, numerator-within}
-use Rattle.through.proofs.Ranges.{got-answer, answered, rounded-within, divides}
+use Rattle.through.proofs.Ranges.{all-within, numerator-within, got-answer, answered, units-within, divisible}
 use Rattle.through.proofs.through_c.Statement.{statement}
 use Rattle.through.proofs.through_c.Tie as tie
 
-module _ (s : tie.Start) where
-  vertices : VerticesWithin (s .args .v)
-  vertices = vertices-within (s .args .v) (s .pre .in-range .vertices)
-
-  values : ValuesWithin (s .args .r)
-  values = values-within (s .args .r) (s .pre .in-range .values)
-
--- what is divided
 module _ (c : tie.After-numerator) where
-  abbrev numeratorC : Code w64
-  numeratorC =
-      let s = c .before in
-      known (got-answer (c .numerator .ensures) (numerator-within (s .args .v) (s .args .r) (vertices s) (values s)) tt)
-
-  abbrev unitsC : Code w64
-  unitsC = known (got-lit w64 65536 tt) ⊠ numeratorC
-
--- by what
-divisor : (c : tie.After-doubled-area) → toZ w64 (ofZ w64 (c .doubled-area .result)) ≡ doubledArea (c .before .before .args .v)
-divisor c =
-    let s = c .before .before in
-    answered (c .doubled-area .ensures) (area-within (s .args .v) (vertices s)) tt
-
-rounded-down-requires : tie.Need-rounded-down-requires
-rounded-down-requires c κs =
-    let dividend = c .before in
-    divides
-    (reads-as (unitsC dividend) tt)
-    (divisor c)
-    (within-le (omega arith) (got-of (unitsC dividend) tt .bound))
-    (dividend .before .pre .area)
-
-module _ (c : tie.After-rounded-down) where
   abbrev start : tie.Start
-  start = c .before .before .before
+  start = c .before
 
   abbrev exact : ℤ
-  exact = inUnits (numerator (start .args .v) (start .args .r) (sample 0 0))
+  exact = numerator (start .args .v) (start .args .r) (sample 0 0)
 
-  quotient : c .rounded-down .result ≡ roundedDown exact (doubledArea (start .args .v))
-  quotient = c .rounded-down .ensures ∙ ap₂ roundedDown (reads-as (unitsC (c .before .before)) tt) (divisor (c .before))
+  within : Within 52792126865408 exact
+  within = numerator-within (start .args .v) (start .args .r) (all-within (start .args .v) (start .args .r) (start .pre .in-range))
 
-  abbrev raisedC : Code w64
-  raisedC =
-      known
-      (got-answer quotient
-      (rounded-within (doubledArea (start .args .v)) (got-of (unitsC (c .before .before)) tt .bound))
-      tt)
-      ⊞ known (got-lit w64 1119 tt)
+  is-exact : toZ w64 (ofZ w64 (c .numerator .result)) ≡ exact
+  is-exact = answered (c .numerator .ensures) within tt
+
+abbrev raisedC : tie.After-in-units → Code w64
+raisedC c =
+    let d = doubledArea (start (c .before) .args .v) in
+    known
+    (got-answer
+    (c .in-units .ensures ∙ ap (λ (z : ℤ). roundedDown (inUnits z) d) (is-exact (c .before)))
+    (units-within (start (c .before) .args .v) (within (c .before)))
+    tt)
+    ⊞ known (got-lit w64 1119 tt)
 
 returns : tie.Need-returns
 unfolding throughC
@@ -72,8 +43,6 @@ through-c-spec =
     tie.close
     (tie.spec
     (λ c κs. c .pre .in-range)
-    (λ c. need (unitsC c) tt)
-    (λ c κs. c .before .pre .in-range .vertices)
-    rounded-down-requires
+    (λ c κs. divisible (start c .pre) (is-exact c) (within c))
     (λ c. need (raisedC c) tt)
     returns)

@@ -8,21 +8,17 @@ use mir.Syntax.{w32, w64}
 use mir.Val.{SFits, toZ, ofZ}
 use mir.ValLaws.{toZ-ofZ}
 use Rattle.rules.specs.declared.Vertices.{Vertices}
-use Rattle.rules.specs.Triangles.{positive, doubledArea}
+use Rattle.rules.specs.Triangles.{doubledArea}
 use Rattle.rules.specs.Numbers.{inSigned32}
 use Rattle.interpolation.specs.declared.Values.{Values}
 use Rattle.interpolation.specs.Interpolation.{throughC, throughA, throughB, planeThrough, planeInRange, hasNoPlane}
-use Rattle.through.proofs.Ranges.{VerticesWithin, vertices-within, ValuesWithin, values-within, c-small, a-small, b-small, answered}
+use Rattle.through.proofs.Ranges.{AllWithin, all-within, c-small, a-small, b-small, answered}
 use Rattle.through.proofs.Answers.{lt-positive, number-9, number-0, plane-outside, refuses, passes, fits, three}
 use Rattle.through.proofs.worked_out.Statement.{statement}
 use Rattle.through.proofs.worked_out.Tie as tie
 
-module _ (s : tie.Start) where
-  vertices : VerticesWithin (s .args .v)
-  vertices = vertices-within (s .args .v) (s .pre .in-range .vertices)
-
-  values : ValuesWithin (s .args .r)
-  values = values-within (s .args .r) (s .pre .in-range .values)
+within : (s : tie.Start) → AllWithin (s .args .v) (s .args .r)
+within s = all-within (s .args .v) (s .args .r) (s .pre .in-range)
 
 -- the three numbers, as they are read back
 module _ (k : tie.After-through-b) where
@@ -30,13 +26,13 @@ module _ (k : tie.After-through-b) where
   start = k .before .before .before
 
   is-c : toZ w64 (ofZ w64 (k .before .before .through-c .result)) ≡ throughC (start .args .v) (start .args .r)
-  is-c = answered (k .before .before .through-c .ensures) (c-small (start .args .v) (start .args .r) (vertices start) (values start)) tt
+  is-c = answered (k .before .before .through-c .ensures) (c-small (start .args .v) (start .args .r) (within start)) tt
 
   is-a : toZ w64 (ofZ w64 (k .before .through-a .result)) ≡ throughA (start .args .v) (start .args .r)
-  is-a = answered (k .before .through-a .ensures) (a-small (start .args .v) (start .args .r) (vertices start) (values start)) tt
+  is-a = answered (k .before .through-a .ensures) (a-small (start .args .v) (start .args .r) (within start)) tt
 
   is-b : toZ w64 (ofZ w64 (k .through-b .result)) ≡ throughB (start .args .v) (start .args .r)
-  is-b = answered (k .through-b .ensures) (b-small (start .args .v) (start .args .r) (vertices start) (values start)) tt
+  is-b = answered (k .through-b .ensures) (b-small (start .args .v) (start .args .r) (within start)) tt
 
 -- the tests, once all three are made
 module _ (t : tie.After-in-signed323) where
@@ -75,7 +71,10 @@ module _ (e : tie.Else1) where
   abbrev t : tie.After-in-signed323
   t = e .before
 
-  each : (inSigned32 (throughC (v t) (r t)) ≡ true) × (inSigned32 (throughA (v t) (r t)) ≡ true) × (inSigned32 (throughB (v t) (r t)) ≡ true)
+  each :
+      (inSigned32 (throughC (v t) (r t)) ≡ true)
+      × (inSigned32 (throughA (v t) (r t)) ≡ true)
+      × (inSigned32 (throughB (v t) (r t)) ≡ true)
   each = let (p, q, s) = three (not-false _ (e .if1 .left)) in (sym (c-test t) ∙ p, sym (a-test t) ∙ q, sym (b-test t) ∙ s)
 
   fit : {x y : ℤ} → x ≡ y → inSigned32 y ≡ true → SFits w32 x

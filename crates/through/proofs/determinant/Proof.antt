@@ -4,8 +4,8 @@ use lib.IntN.{ℤ, natAbs}
 use mir.Syntax.{w32, w64}
 use mir.Val.{SFits}
 use Rattle.ints.proofs.Machine.{got-arg, Code, known, cast, _⊟_, _⊠_, need, reads-as}
-use Rattle.through.proofs.cross.Statement.{statement}
-use Rattle.through.proofs.cross.Tie as tie
+use Rattle.through.proofs.determinant.Statement.{statement}
+use Rattle.through.proofs.determinant.Tie as tie
 
 abbrev wide : {z : ℤ} → SFits w32 z → natAbs z ≤ 32767 → Code w64
 wide f h = cast w64 (known (got-arg f (record { within = h })))
@@ -35,8 +35,8 @@ module _ (c : tie.Start) where
   abbrev second : Code w64
   second = (p3 ⊟ p) ⊠ (q2 ⊟ q)
 
-pub cross-spec : {M : Type 1} → statement M
-cross-spec =
+pub determinant-spec : {M : Type 1} → statement M
+determinant-spec =
     tie.close
     (tie.spec
     (λ c. need (p c) tt)
