@@ -5,12 +5,11 @@ use mathlib.Core.Bool.{Bool, true, false}
 use native.Mathlib.Omega.{arith}
 use lib.Dec.{T}
 use lib.IntN.{ℤ, pos, negsuc, _*ℤ_}
-use lib.Signed.{ltZ, _<ℤ_}
+use lib.Signed.{ltZ}
 use mir.Syntax.{w64}
 use mir.Val.{SFits, toZ, ofZ}
 use mir.ValLaws.{toZ-ofZ}
 use borrow.Author.Tests.{lt-ltb, le-ltb}
-use Rattle.ints.proofs.Order.{ltZ-true}
 use Rattle.ints.proofs.Bounds.{Within, fits-64}
 use Rattle.ints.proofs.Machine.{got-lit, Code, known, _⊟_, word-of, meant, fine, reads-as}
 use Rattle.rules.specs.Triangles.{positive, isZero, negative}
@@ -33,9 +32,6 @@ above (negsuc n) = refl
 pub below : (z : ℤ) → ltZ z (pos 0) ≡ negative z
 below (pos n) = le-ltb n 0 (omega arith)
 below (negsuc n) = refl
-
-pub positive-true : (z : ℤ) → positive z ≡ true → pos 0 <ℤ z
-positive-true z h = ltZ-true (pos 0) z (above z ∙ h)
 
 -- a number has one sign
 

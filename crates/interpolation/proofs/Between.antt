@@ -1,18 +1,18 @@
 -- At a pixel that the triangle covers the exact value lies between the values at the vertices: it is their mean, weighted by edge values
--- that are not below zero and whose sum is the doubled area. So the plane's value is above the least of the three and less than a unit and
--- a part above the greatest, in units of the top half; it is the word that the drawing takes, and its top half is between them.
-use Prim.Native.Nat.{ℕ, suc, _+_, _*_, _≤_, _<_}
+-- that are not below zero and whose sum is the doubled area. So the plane's value is above the least of the three and at most 1,119 units
+-- above the greatest; it is the word that the drawing takes, and its top half is between them.
+use Prim.Native.Nat.{ℕ, _+_, _*_, _≤_, _<_}
 use mathlib.Core.Path.{_≡_, sym, _∙_, ap, subst}
 use mathlib.Core.Bool.{true}
 use mathlib.Core.List.{List, [], _∷_}
-use native.Mathlib.Nat.{mul-add, lt-of-mul-lt-mul-left, le-of-mul-le-mul-left, mod-eq-of-lt}
+use native.Mathlib.Nat.{mod-eq-of-lt}
 use native.Mathlib.Omega.{arith}
-use lib.IntN.{ℤ, pos, negsuc, natAbs, _+ℤ_, _*ℤ_}
+use lib.IntN.{ℤ, pos, negsuc, _+ℤ_, _*ℤ_}
 use lib.Signed.{_≤ℤ_, _<ℤ_}
 use Rattle.ints.specs.Modulo.{mod32}
 use Rattle.ints.proofs.Poly.{var, con, _⊕_, _⊖_, _⊗_, solve}
-use Rattle.ints.proofs.Order.{is-self, is-times, is-pos, is-lt, is-le, lt-is, le-is, eq-is, up, dn, successor, le-of, le-to, lt-of, lt-to}
-use Rattle.ints.proofs.Order.{sub-nonneg, mul-nonneg}
+use Rattle.ints.proofs.Order.{is-self, is-pos, is-lt, lt-is, le-is, eq-is, up, dn, le-of, le-to, lt-of, lt-to}
+use Rattle.ints.proofs.Order.{sub-nonneg, mul-nonneg, cancel-lt, cancel-le}
 use Rattle.ints.proofs.Modulo.{mod32-pos}
 use Rattle.rules.specs.declared.Plane.{Plane}
 use Rattle.rules.specs.declared.Vertices.{Vertices}
@@ -20,37 +20,9 @@ use Rattle.rules.specs.Triangles.{Point, sample, edge1, edge2, edge3, edgeValue
 use Rattle.rules.proofs.Closing.{no-value-below}
 use Rattle.order.proofs.Area.{values-sum}
 use Rattle.interpolation.specs.declared.Values.{Values}
-use Rattle.interpolation.specs.Interpolation.{numerator, inUnits, raise}
+use Rattle.interpolation.specs.Interpolation.{numerator, inUnits}
 use Rattle.interpolation.specs.Nearness.{valueAt, planeTimes, Near, From}
 use Rattle.interpolation.proofs.Cramer.{weighted}
-
--- a positive factor may be left out of an order
-
-module _ (k : ℕ) (u w : ℤ) where
-  sums : (a b : ℕ) → suc k * (a + b) ≡ suc k * a + suc k * b
-  sums = mul-add (suc k)
-
-  less : (pos (suc k) *ℤ u) <ℤ (pos (suc k) *ℤ w) → u <ℤ w
-  less l =
-      let n = lt-is (is-times (suc k) (is-self u)) (is-times (suc k) (is-self w)) l in
-      is-lt (is-self u) (is-self w) (lt-of-mul-lt-mul-left (suc k) (omega (arith, n, sums (up u) (dn w), sums (up w) (dn u))))
-
-  no-more : (pos (suc k) *ℤ u) ≤ℤ (pos (suc k) *ℤ w) → u ≤ℤ w
-  no-more l =
-      let n = le-is (is-times (suc k) (is-self u)) (is-times (suc k) (is-self w)) l in
-      is-le (is-self u) (is-self w)
-      (le-of-mul-le-mul-left {k = suc k} (omega (arith, n, sums (up u) (dn w), sums (up w) (dn u))) (omega arith))
-
-module _ {d u w : ℤ} (h : pos 0 <ℤ d) where
-  cancel-lt : (d *ℤ u) <ℤ (d *ℤ w) → u <ℤ w
-  cancel-lt l =
-      let (k, e) = successor h in
-      less k u w (subst (λ (z : ℤ). (z *ℤ u) <ℤ (z *ℤ w)) e l)
-
-  cancel-le : (d *ℤ u) ≤ℤ (d *ℤ w) → u ≤ℤ w
-  cancel-le l =
-      let (k, e) = successor h in
-      no-more k u w (subst (λ (z : ℤ). (z *ℤ u) ≤ℤ (z *ℤ w)) e l)
 
 -- a mean of three numbers, weighted by three that are not below zero
 
@@ -125,15 +97,15 @@ module _
         let a = lt-to ρ (con (pos 65536) ⊗ var 2) (var 3) (near .above) in
         cancel-lt h (lt-of ρ (var 0 ⊗ (con (pos 65536) ⊗ var 1)) (var 3) (omega (arith, n, a)))
 
-    pub at-most-greatest : valueAt p x y ≤ℤ (inUnits greatest +ℤ raise)
+    pub at-most-greatest : valueAt p x y ≤ℤ (inUnits greatest +ℤ pos 1119)
     at-most-greatest =
         let ρ : List ℤ = doubledArea v ∷ greatest ∷ numerator v r (sample x y) ∷ planeTimes v p x y ∷ [] in
         let n = le-to ρ (var 2) (var 0 ⊗ var 1) (numerator-greatest v r (sample x y) i (f .first .1) (f .second .1) (f .third .1)) in
-        let a = le-to ρ (var 3) (con (pos 65536) ⊗ var 2 ⊕ var 0 ⊗ con raise) (near .at-most) in
+        let a = le-to ρ (var 3) (con (pos 65536) ⊗ var 2 ⊕ var 0 ⊗ con (pos 1119)) (near .at-most) in
         cancel-le h
-        (le-of ρ (var 3) (var 0 ⊗ (con (pos 65536) ⊗ var 1 ⊕ con raise)) (omega (arith, n, a)))
+        (le-of ρ (var 3) (var 0 ⊗ (con (pos 65536) ⊗ var 1 ⊕ con (pos 1119))) (omega (arith, n, a)))
 
--- what the drawing takes of it, where the values are natural numbers up to 32,767
+-- what the drawing takes of it
 
 word : (z : ℤ) → pos 0 <ℤ z → z <ℤ pos 2147483648 → pos (mod32 z) ≡ z
 word (pos n) l u =
@@ -148,31 +120,30 @@ module _
     (h : pos 0 <ℤ doubledArea v)
     (near : Near v r p x y)
     (i : insideAll v (sample x y) ≡ true)
-    {least greatest : ℕ}
-    (f : From (pos least) (pos greatest) r)
-    (g : greatest ≤ 32767)
   where
     abbrev z : ℤ
     z = valueAt p x y
 
-    low : 65536 * least + dn z < up z + 0
-    low = lt-is (is-pos (65536 * least)) (is-self z) (above-least h near i f)
+    module _ {least greatest : ℕ} (f : From (pos least) (pos greatest) r) where
+      low : 65536 * least + dn z < up z + 0
+      low = lt-is (is-pos (65536 * least)) (is-self z) (above-least h near i f)
 
-    high : up z + 0 ≤ 65536 * greatest + natAbs raise + dn z
-    high = le-is (is-self z) (is-pos (65536 * greatest + natAbs raise)) (at-most-greatest h near i f)
+      high : up z + 0 ≤ 65536 * greatest + 1119 + dn z
+      high = le-is (is-self z) (is-pos (65536 * greatest + 1119)) (at-most-greatest h near i f)
 
-    pub plane-word : pos (planeAt p x y) ≡ valueAt p x y
+    -- where the values are in range
+    pub plane-word : From (pos 0) (pos 32767) r → pos (planeAt p x y) ≡ valueAt p x y
     unfolding planeAt
-    plane-word =
-        word z (is-lt (is-pos 0) (is-self z) (omega (arith, low))) (is-lt (is-self z) (is-pos 2147483648) (omega (arith, high, g)))
+    plane-word f =
+        word z (is-lt (is-pos 0) (is-self z) (omega (arith, low f))) (is-lt (is-self z) (is-pos 2147483648) (omega (arith, high f)))
 
-    -- the largest is 2,147,419,231, which is 2^31 - 64,417
-    pub plane-most : planeAt p x y ≤ 65536 * greatest + 1119
-    plane-most = omega (arith, high, eq-is (is-pos (planeAt p x y)) (is-self z) plane-word)
+    module _ {least greatest : ℕ} (f : From (pos least) (pos greatest) r) (w : pos (planeAt p x y) ≡ valueAt p x y) where
+      plane-most : planeAt p x y ≤ 65536 * greatest + 1119
+      plane-most = omega (arith, high f, eq-is (is-pos (planeAt p x y)) (is-self z) w)
 
-    plane-least : 65536 * least < planeAt p x y
-    plane-least = omega (arith, low, eq-is (is-pos (planeAt p x y)) (is-self z) plane-word)
+      plane-least : 65536 * least < planeAt p x y
+      plane-least = omega (arith, low f, eq-is (is-pos (planeAt p x y)) (is-self z) w)
 
-    pub top-half-between : (least ≤ topHalf (planeAt p x y)) × (topHalf (planeAt p x y) ≤ greatest)
-    unfolding topHalf
-    top-half-between = (omega (arith, plane-least), omega (arith, plane-most))
+      pub top-half-between : (least ≤ topHalf (planeAt p x y)) × (topHalf (planeAt p x y) ≤ greatest)
+      unfolding topHalf
+      top-half-between = (omega (arith, plane-least), omega (arith, plane-most))

@@ -1,4 +1,4 @@
--- Cramer's rule is what it is for: its denominator is the doubled area, its plane has each vertex's value there, its numerator is the three
+-- Cramer's rule does what it is for: its denominator is the doubled area, its plane has each vertex's value there, its numerator is the three
 -- values weighted by the edge values, and from pixel to pixel it goes in equal steps. All are identities of polynomials.
 use Prim.Native.Nat.{ℕ}
 use mathlib.Core.Path.{_≡_}
@@ -17,7 +17,7 @@ module _ (v : Vertices) (r : Values) where
   abbrev withPoint : Point → List ℤ
   withPoint p = v .x1 ∷ v .y1 ∷ v .x2 ∷ v .y2 ∷ v .x3 ∷ v .y3 ∷ r .r1 ∷ r .r2 ∷ r .r3 ∷ p .px ∷ p .py ∷ []
 
--- the same as expressions, over the vertices x1, y1, x2, y2, x3, y3, any three values and any point
+-- the definitions as expressions: variables 0 to 5 are x1, y1, x2, y2, x3, y3; values and point are any
 
 abbrev pub areaE : Exp
 areaE = (var 2 ⊖ var 0) ⊗ (var 5 ⊖ var 1) ⊖ (var 4 ⊖ var 0) ⊗ (var 3 ⊖ var 1)
@@ -29,7 +29,7 @@ module _ (r1 r2 r3 : Exp) where
   abbrev pub numeratorBE : Exp
   numeratorBE = r1 ⊗ (var 4 ⊖ var 2) ⊕ r2 ⊗ (var 0 ⊖ var 4) ⊕ r3 ⊗ (var 2 ⊖ var 0)
 
-  abbrev pub numeratorCE : Exp
+  abbrev numeratorCE : Exp
   numeratorCE =
       r1 ⊗ (var 2 ⊗ var 5 ⊖ var 4 ⊗ var 3) ⊕ r2 ⊗ (var 4 ⊗ var 1 ⊖ var 0 ⊗ var 5) ⊕ r3 ⊗ (var 0 ⊗ var 3 ⊖ var 2 ⊗ var 1)
 

@@ -20,7 +20,7 @@ use Rattle.rules.specs.declared.Drawn.{Drawn}
 use Rattle.rules.specs.Sizes.{groups, height, sizeInRange, soundAreas, sound, depthAt}
 use Rattle.rules.specs.Triangles.{doubledArea, sample, insideAll, covered, atMostStored, written, triangleDepth, planeAt, topHalf}
 use Rattle.rules.specs.Calls.{Draws}
-use Rattle.rules.proofs.Choices.{and-true, accepted-yes}
+use Rattle.rules.proofs.Choices.{and-true, accepted-yes, positive-lt}
 use Rattle.rules.proofs.Strips.{and-l, and-r}
 use Rattle.rules.proofs.Drawing.{covered-on}
 use Rattle.order.specs.Pointwise.{Holds}
@@ -32,11 +32,11 @@ use Rattle.interpolation.specs.declared.Through.{Through}
 use Rattle.interpolation.specs.Interpolation.{planeThrough, valueInRange, throughNumber, zeros, PassesThrough}
 use Rattle.interpolation.specs.Nearness.{valueAt, Near, From}
 use Rattle.interpolation.specs.Refusals.{HasPlane}
-use Rattle.interpolation.proofs.Numbers.{positive-lt, through-numbers}
+use Rattle.interpolation.proofs.Numbers.{through-numbers}
 use Rattle.interpolation.proofs.Nearness.{near}
-use Rattle.interpolation.proofs.Between.{plane-word, plane-most, top-half-between}
+use Rattle.interpolation.proofs.Between.{above-least, at-most-greatest, plane-word, top-half-between}
 
--- a pixel of a screen in range
+-- a screen's size is at most 40 groups by 480 rows
 module _ (s : Screen) (h : sizeInRange (s .size) ≡ true) where
   groups-most : groups (s .size) ≤ 40
   groups-most = search (and-l, and-r, leb-true)
@@ -49,7 +49,7 @@ value-from r h = let (l, g) = and-true {a = leZ (pos 0) r} h in (leZ-true (pos 0
 
 module _ {v : Vertices} {r : Values} {answer : Through} (call : PassesThrough v r answer) (done : answer .number ≡ 0) where
   has-plane : HasPlane v r
-  has-plane = through-numbers v r .done .0 (sym (call .answers) ∙ done)
+  has-plane = through-numbers v r .done .0 (sym (call .answers) ∙ done) .1
 
   is-plane : answer .plane ≡ planeThrough v r
   is-plane = call .gives ∙ accepted-yes (throughNumber v r) (planeThrough v r) zeros (sym (call .answers) ∙ done)
@@ -89,27 +89,29 @@ module _
     inside-here : insideAll (t .vertices) (sample x y) ≡ true
     inside-here = inside-covered t s x y c
 
-    -- what the drawing takes, modulo 2^32, is the value itself, which is from 1 to 2^31 - 64,417
-    pub word-covered : pos (planeAt (answer .plane) x y) ≡ valueAt (answer .plane) x y
-    word-covered = plane-word (area call done) near-covered inside-here (all-values call done) (omega arith)
+    -- the value is from 1 to 2^31 - 64,417
+    pub value-covered : (pos 0 <ℤ valueAt (answer .plane) x y) × (valueAt (answer .plane) x y ≤ℤ pos 2147419231)
+    value-covered = (
+      above-least (area call done) near-covered inside-here (all-values call done),
+      at-most-greatest (area call done) near-covered inside-here (all-values call done),
+    )
 
-    pub most-covered : planeAt (answer .plane) x y ≤ 2147419231
-    most-covered = plane-most (area call done) near-covered inside-here (all-values call done) (omega arith)
+    -- so what the drawing takes, modulo 2^32, is the value itself
+    pub word-covered : pos (planeAt (answer .plane) x y) ≡ valueAt (answer .plane) x y
+    word-covered = plane-word (area call done) near-covered inside-here (all-values call done)
 
     -- between any two numbers that the three values are between
     pub between-covered : {least greatest : ℕ}
         → From (pos least) (pos greatest) r
-        → greatest ≤ 32767
         → (least ≤ topHalf (planeAt (answer .plane) x y)) × (topHalf (planeAt (answer .plane) x y) ≤ greatest)
-    between-covered f g = top-half-between (area call done) near-covered inside-here f g
+    between-covered f = top-half-between (area call done) near-covered inside-here f word-covered
 
     -- what a colour keeps of it is all of it: n is 32 for red and blue, 64 for green
     pub part-covered : {least greatest n : ℕ}
         → From (pos least) (pos greatest) r
-        → greatest ≤ 32767
         → greatest < n
         → topHalf (planeAt (answer .plane) x y) % n ≡ topHalf (planeAt (answer .plane) x y)
-    part-covered f g l = mod-eq-of-lt (lt-of-le-of-lt (between-covered f g .1) l)
+    part-covered f l = mod-eq-of-lt (lt-of-le-of-lt (between-covered f .1) l)
 
 -- a triangle with this plane for its depth, drawn: at a pixel that is written
 module _
@@ -136,6 +138,7 @@ module _
     unfolding written
     covers = and-l (covered t s x y) (atMostStored t s m x y) w
 
+    -- the value is above 0, so `natAbs` is the value itself
     pub depth-drawn : t .depth ≡ answer .plane → Holds after (depthAt s x y) (topHalf (natAbs (valueAt (answer .plane) x y)))
     unfolding triangleDepth
     depth-drawn is =

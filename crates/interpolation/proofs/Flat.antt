@@ -56,7 +56,7 @@ module _ (v : Vertices) (n : ℤ) where
     }
 
     pub flat-attains : (x y : ℕ)
-        → planeTimes v (planeThrough v (flat n)) x y ≡ exactTimes v (flat n) x y +ℤ doubledArea v *ℤ raise
+        → planeTimes v (planeThrough v (flat n)) x y ≡ exactTimes v (flat n) x y +ℤ doubledArea v *ℤ pos 1119
     flat-attains x y =
         ap (λ (p : Plane). planeTimes v p x y) flat-plane
         ∙ solve (doubledArea v ∷ n ∷ pos x ∷ pos y ∷ [])

@@ -9,6 +9,7 @@ use lib.IntN.{ℤ, pos, negsuc, _+ℤ_, _*ℤ_}
 use lib.Signed.{_<ℤ_}
 use Rattle.ints.proofs.Poly.{var, con, _⊕_, _⊗_, solve}
 use Rattle.ints.proofs.Order.{is-pos, is-self, is-lt, lt-is, le-of, lt-of, lt-to, eq-to}
+use Rattle.ints.proofs.Rounding.{LeftOver, left-over}
 use Rattle.rules.specs.declared.Vertices.{Vertices}
 use Rattle.rules.specs.Triangles.{sample, doubledArea}
 use Rattle.interpolation.specs.declared.Values.{Values}
@@ -16,19 +17,19 @@ use Rattle.interpolation.specs.Interpolation.{numeratorA, numeratorB, nu
 use Rattle.interpolation.specs.Interpolation.{throughA, throughB, throughC, planeThrough}
 use Rattle.interpolation.specs.Nearness.{planeTimes, exactTimes, Near}
 use Rattle.interpolation.proofs.Cramer.{stepped}
-use Rattle.interpolation.proofs.Rounding.{rounded-down, Left, left-over}
+use Rattle.interpolation.proofs.Rounding.{rounded-down}
 
--- what is lost at pixel (x, y), times the divisor
-lost : (d : ℤ) (m n o x y : ℕ)
+-- what three roundings leave over at pixel (x, y), in all
+in-all : (d : ℤ) (m n o x y : ℕ)
     → pos m <ℤ d
     → pos n <ℤ d
     → pos o <ℤ d
     → x < 640
     → y < 480
     → pos (m + n * x + o * y) <ℤ (d *ℤ raise)
-lost (negsuc k) m n o x y hm hn ho hx hy = absurd (hm .lt)
-lost (pos zero) m n o x y hm hn ho hx hy = absurd (omega (arith, lt-is (is-pos m) (is-pos 0) hm))
-lost (pos (suc k)) m n o x y hm hn ho hx hy =
+in-all (negsuc k) m n o x y hm hn ho hx hy = absurd (hm .lt)
+in-all (pos zero) m n o x y hm hn ho hx hy = absurd (omega (arith, lt-is (is-pos m) (is-pos 0) hm))
+in-all (pos (suc k)) m n o x y hm hn ho hx hy =
     let hm′ = lt-is (is-pos m) (is-pos (suc k)) hm in
     let hn′ = lt-is (is-pos n) (is-pos (suc k)) hn in
     let ho′ = lt-is (is-pos o) (is-pos (suc k)) ho in
@@ -41,9 +42,9 @@ module _
     (d n a b : ℤ)
     (x y : ℕ)
     {q p s : ℤ}
-    (l : Left (inUnits n) d q)
-    (i : Left (inUnits (pos 8 *ℤ a)) d p)
-    (j : Left (inUnits (pos 8 *ℤ b)) d s)
+    (l : LeftOver (inUnits n) d q)
+    (i : LeftOver (inUnits (pos 8 *ℤ a)) d p)
+    (j : LeftOver (inUnits (pos 8 *ℤ b)) d s)
   where
     summed : inUnits (n +ℤ pos 8 *ℤ a *ℤ pos x +ℤ pos 8 *ℤ b *ℤ pos y) +ℤ d *ℤ raise
         ≡ d *ℤ (q +ℤ raise +ℤ p *ℤ pos x +ℤ s *ℤ pos y) +ℤ pos (l .over + i .over * x + j .over * y)
@@ -61,41 +62,41 @@ module _
         tt
 
 module _ (v : Vertices) (r : Values) (h : pos 0 <ℤ doubledArea v) where
-  abbrev pub Rest : ℤ → Type 0
-  Rest n = Left (inUnits n) (doubledArea v) (roundedDown (inUnits n) (doubledArea v))
+  abbrev LeftOf : ℤ → Type 0
+  LeftOf n = LeftOver (inUnits n) (doubledArea v) (roundedDown (inUnits n) (doubledArea v))
 
-  pub rest : (n : ℤ) → Rest n
-  rest n = left-over (rounded-down h)
+  left-of : (n : ℤ) → LeftOf n
+  left-of n = left-over (rounded-down h)
 
-  abbrev c-rest : Rest (numerator v r (sample 0 0))
-  c-rest = rest (numerator v r (sample 0 0))
+  abbrev c-left : LeftOf (numerator v r (sample 0 0))
+  c-left = left-of (numerator v r (sample 0 0))
 
-  abbrev a-rest : Rest (pos 8 *ℤ numeratorA v r)
-  a-rest = rest (pos 8 *ℤ numeratorA v r)
+  abbrev a-left : LeftOf (pos 8 *ℤ numeratorA v r)
+  a-left = left-of (pos 8 *ℤ numeratorA v r)
 
-  abbrev b-rest : Rest (pos 8 *ℤ numeratorB v r)
-  b-rest = rest (pos 8 *ℤ numeratorB v r)
+  abbrev b-left : LeftOf (pos 8 *ℤ numeratorB v r)
+  b-left = left-of (pos 8 *ℤ numeratorB v r)
 
   module _ (x y : ℕ) where
-    abbrev loss : ℕ
-    loss = c-rest .over + a-rest .over * x + b-rest .over * y
+    abbrev leftOver : ℕ
+    leftOver = c-left .over + a-left .over * x + b-left .over * y
 
-    -- the plane, and what was lost, are the exact value raised
-    pub plane-and-loss :
-        exactTimes v r x y +ℤ doubledArea v *ℤ raise ≡ planeTimes v (planeThrough v r) x y +ℤ pos loss
+    -- the plane, and what is left over, are the exact value raised
+    plane-and-left-over :
+        exactTimes v r x y +ℤ doubledArea v *ℤ raise ≡ planeTimes v (planeThrough v r) x y +ℤ pos leftOver
     unfolding planeThrough throughA throughB throughC
-    plane-and-loss =
+    plane-and-left-over =
         ap (λ (z : ℤ). inUnits z +ℤ doubledArea v *ℤ raise) (stepped v r x y)
-        ∙ summed (doubledArea v) (numerator v r (sample 0 0)) (numeratorA v r) (numeratorB v r) x y c-rest a-rest b-rest
+        ∙ summed (doubledArea v) (numerator v r (sample 0 0)) (numeratorA v r) (numeratorB v r) x y c-left a-left b-left
 
     pub near : x < 640 → y < 480 → Near v r (planeThrough v r) x y
     near hx hy =
         let ρ : List ℤ =
-        exactTimes v r x y ∷ planeTimes v (planeThrough v r) x y ∷ (doubledArea v *ℤ raise) ∷ pos loss ∷ [] in
-        let e = eq-to ρ (var 0 ⊕ var 2) (var 1 ⊕ var 3) plane-and-loss in
+        exactTimes v r x y ∷ planeTimes v (planeThrough v r) x y ∷ (doubledArea v *ℤ raise) ∷ pos leftOver ∷ [] in
+        let e = eq-to ρ (var 0 ⊕ var 2) (var 1 ⊕ var 3) plane-and-left-over in
         let l =
         lt-to ρ (var 3) (var 2)
-        (lost (doubledArea v) (c-rest .over) (a-rest .over) (b-rest .over) x y (c-rest .few) (a-rest .few) (b-rest .few) hx hy) in
+        (in-all (doubledArea v) (c-left .over) (a-left .over) (b-left .over) x y (c-left .few) (a-left .few) (b-left .few) hx hy) in
         record {
           above = lt-of ρ (var 0) (var 1) (omega (arith, e, l));
           at-most = le-of ρ (var 1) (var 0 ⊕ var 2) (omega (arith, e));

@@ -2,7 +2,7 @@
 -- That it is not too much either, a flat plane shows (`flat-attains`). Both numbers are computed.
 use mathlib.Core.Path.{_≡_, refl}
 use mathlib.Core.Bool.{true}
-use lib.IntN.{pos, negsuc, _-ℤ_}
+use lib.IntN.{pos, negsuc, _+ℤ_, _-ℤ_, _*ℤ_}
 use lib.Signed.{_<ℤ_}
 use Rattle.rules.specs.declared.Screen.{Screen}
 use Rattle.rules.specs.declared.Plane.{Plane}
@@ -14,7 +14,7 @@ use Rattle.interpolation.specs.declared.Values.{Values}
 use Rattle.interpolation.specs.Interpolation.{numeratorA, numeratorB, numeratorC, numerator, roundedDown}
 use Rattle.interpolation.specs.Interpolation.{throughC, throughA, throughB}
 use Rattle.interpolation.specs.Interpolation.{planeThrough, valuesInRange, planeInRange, hasNoPlane, throughNumber, zeros}
-use Rattle.interpolation.specs.Nearness.{planeTimes, exactTimes}
+use Rattle.interpolation.specs.Nearness.{planeTimes, exactTimes, flat}
 
 -- (-148, 6152), (-4246, -5964), (7186, 5040)
 abbrev pub tight : Vertices
@@ -45,3 +45,24 @@ tight-covered = refl
 pub less-fails : exactTimes tight tightValues 639 479 <ℤ planeTimes tight (lessRaised (planeThrough tight tightValues)) 639 479 → ⊥
 unfolding planeThrough throughC throughA throughB roundedDown numerator numeratorA numeratorB numeratorC sample doubledArea
 less-fails h = h .lt
+
+-- (0, 0), (16, 0), (0, 16): the corner pixel is covered
+abbrev pub level : Vertices
+level = record { x1 = pos 0; y1 = pos 0; x2 = pos 16; y2 = pos 0; x3 = pos 0; y3 = pos 16 }
+
+abbrev pub levelTriangle : Triangle
+levelTriangle = record { vertices = level; depth = zeros; red = zeros; green = zeros; blue = zeros }
+
+pub level-accepted : throughNumber level (flat (pos 7)) ≡ 0
+unfolding throughNumber verticesInRange hasNoPlane valuesInRange planeInRange planeThrough throughC throughA throughB roundedDown numerator
+    numeratorA numeratorB numeratorC sample doubledArea
+level-accepted = refl
+
+pub level-covered : covered levelTriangle largest 0 0 ≡ true
+unfolding covered insideAll inside keepsZero edgeValue sample
+level-covered = refl
+
+pub level-attains :
+    planeTimes level (planeThrough level (flat (pos 7))) 0 0 ≡ exactTimes level (flat (pos 7)) 0 0 +ℤ doubledArea level *ℤ pos 1119
+unfolding planeThrough throughC throughA throughB roundedDown numerator numeratorA numeratorB numeratorC sample doubledArea
+level-attains = refl

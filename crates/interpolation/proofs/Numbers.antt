@@ -1,11 +1,8 @@
--- The numbers 0, 6 and 9, each exactly when: the definition's tests, looked at one by one.
-use Prim.Native.Nat.{zero, suc}
+-- When the call answers 0, when 6 and when 9, each exactly: by the definition's tests, one after the other.
 use mathlib.Core.Path.{_≡_, refl, sym, _∙_}
+use mathlib.Core.Logic.{_↔_}
 use mathlib.Core.Bool.{Bool, true, false, _&&_, _||_, not, false≢true}
 use native.Mathlib.Omega.{arith}
-use lib.Dec.{lt→ltb}
-use lib.IntN.{ℤ, pos, negsuc}
-use lib.Signed.{_<ℤ_, ltZ-yes}
 use Rattle.rules.specs.declared.Vertices.{Vertices}
 use Rattle.rules.specs.Folds.{choose}
 use Rattle.rules.specs.Triangles.{positive, doubledArea}
@@ -16,17 +13,11 @@ use Rattle.interpolation.specs.Interpolation.{planeInRange, hasNoPlane, 
 use Rattle.interpolation.specs.Refusals.{HasPlane, Lacks, first-value, second-value, third-value, area}
 use Rattle.interpolation.specs.Refusals.{c-outside, a-outside, b-outside}
 
--- the test of the area, and the order that it decides
-pub positive-lt : (z : ℤ) → positive z ≡ true → pos 0 <ℤ z
-positive-lt (pos zero) e = absurd (false≢true e)
-positive-lt (pos (suc n)) e = ltZ-yes (lt→ltb 0 (suc n) (omega arith))
-positive-lt (negsuc n) e = absurd (false≢true e)
-
 module _ (v : Vertices) (r : Values) where
   -- what has no plane lacks a part, and what lacks none has one
   abbrev Says : Bool → Type 0
   Says true = Lacks v r
-  Says false = verticesInRange v ≡ true → HasPlane v r
+  Says false = HasPlane v r
 
   told : (f s t d c a b : Bool)
       → valueInRange (r .r1) ≡ f
@@ -44,8 +35,8 @@ module _ (v : Vertices) (r : Values) where
   told true true true true false a b p q u h i j k = c-outside i
   told true true true true true false b p q u h i j k = a-outside j
   told true true true true true true false p q u h i j k = b-outside k
-  told true true true true true true true p q u h i j k = λ w.
-      record { vertices = w; first = p; second = q; third = u; area = h; c = i; a = j; b = k }
+  told true true true true true true true p q u h i j k =
+      record { first = p; second = q; third = u; area = h; c = i; a = j; b = k }
 
   decided : Says (hasNoPlane v r)
   unfolding hasNoPlane valuesInRange planeInRange planeThrough
@@ -56,7 +47,7 @@ module _ (v : Vertices) (r : Values) where
       (inSigned32 (throughC v r)) (inSigned32 (throughA v r)) (inSigned32 (throughB v r))
       refl refl refl refl refl refl refl
 
-  pub not-both : HasPlane v r → Lacks v r → ⊥
+  not-both : HasPlane v r → Lacks v r → ⊥
   not-both h (first-value e) = false≢true (sym e ∙ h .first)
   not-both h (second-value e) = false≢true (sym e ∙ h .second)
   not-both h (third-value e) = false≢true (sym e ∙ h .third)
@@ -66,16 +57,29 @@ module _ (v : Vertices) (r : Values) where
   not-both h (b-outside e) = false≢true (sym e ∙ h .b)
 
   -- the number by its two tests
-  by-tests : (w n : Bool) → verticesInRange v ≡ w → hasNoPlane v r ≡ n → throughNumber v r ≡ choose (not w) 6 (choose n 9 0)
+  pub by-tests : (w n : Bool) → verticesInRange v ≡ w → hasNoPlane v r ≡ n → throughNumber v r ≡ choose (not w) 6 (choose n 9 0)
   unfolding throughNumber
   by-tests w n e f = rw (e, f)
 
+  -- the parts of 9, one after the other
+
+  pub values-outside : valuesInRange r ≡ false → hasNoPlane v r ≡ true
+  unfolding hasNoPlane
+  values-outside h = rw h
+
+  module _ (h : valuesInRange r ≡ true) where
+    pub area-outside : positive (doubledArea v) ≡ false → hasNoPlane v r ≡ true
+    unfolding hasNoPlane
+    area-outside k = rw (h, k)
+
+    pub plane-outside : positive (doubledArea v) ≡ true → hasNoPlane v r ≡ not (planeInRange (planeThrough v r))
+    unfolding hasNoPlane
+    plane-outside k = rw (h, k)
+
   pub record Numbered : Type 0 where
-    pub done : (throughNumber v r ≡ 0 → HasPlane v r) × (HasPlane v r → throughNumber v r ≡ 0)
-    pub six : (throughNumber v r ≡ 6 → verticesInRange v ≡ false) × (verticesInRange v ≡ false → throughNumber v r ≡ 6)
-    pub nine :
-        (throughNumber v r ≡ 9 → (verticesInRange v ≡ true) × Lacks v r)
-        × (verticesInRange v ≡ true → Lacks v r → throughNumber v r ≡ 9)
+    pub done : (throughNumber v r ≡ 0) ↔ ((verticesInRange v ≡ true) × HasPlane v r)
+    pub six : (throughNumber v r ≡ 6) ↔ (verticesInRange v ≡ false)
+    pub nine : (throughNumber v r ≡ 9) ↔ ((verticesInRange v ≡ true) × Lacks v r)
 
   pub through-numbers : Numbered
   through-numbers = go (verticesInRange v) (hasNoPlane v r) refl refl decided
@@ -84,21 +88,21 @@ module _ (v : Vertices) (r : Values) where
       go false n e f d =
           let is : throughNumber v r ≡ 6 = by-tests false n e f in
           record {
-            done = (λ q. absurd (omega (arith, is, q)), λ h. absurd (false≢true (sym e ∙ h .vertices)));
+            done = (λ q. absurd (omega (arith, is, q)), λ h. absurd (false≢true (sym e ∙ h .0)));
             six = (λ q. e, λ q. is);
-            nine = (λ q. absurd (omega (arith, is, q)), λ h. absurd (false≢true (sym e ∙ h)));
+            nine = (λ q. absurd (omega (arith, is, q)), λ h. absurd (false≢true (sym e ∙ h .0)));
           }
       go true true e f d =
           let is : throughNumber v r ≡ 9 = by-tests true true e f in
           record {
-            done = (λ q. absurd (omega (arith, is, q)), λ h. absurd (not-both h d));
+            done = (λ q. absurd (omega (arith, is, q)), λ h. absurd (not-both (h .1) d));
             six = (λ q. absurd (omega (arith, is, q)), λ q. absurd (false≢true (sym q ∙ e)));
-            nine = (λ q. (e, d), λ h l. is);
+            nine = (λ q. (e, d), λ h. is);
           }
       go true false e f d =
           let is : throughNumber v r ≡ 0 = by-tests true false e f in
           record {
-            done = (λ q. d e, λ h. is);
+            done = (λ q. (e, d), λ h. is);
             six = (λ q. absurd (omega (arith, is, q)), λ q. absurd (false≢true (sym q ∙ e)));
-            nine = (λ q. absurd (omega (arith, is, q)), λ h l. absurd (not-both (d e) l));
+            nine = (λ q. absurd (omega (arith, is, q)), λ h. absurd (not-both d (h .1)));
           }

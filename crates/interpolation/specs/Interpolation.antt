@@ -15,7 +15,7 @@ use Rattle.interpolation.specs.declared.Values.{Values}
 use Rattle.interpolation.specs.declared.Through.{Through}
 
 -- 001, 4.2: a plane through three values is Ax + By + C, and Cramer's rule gives A, B and C as fractions over one denominator, det.
--- These are det and the three numerators; det is the doubled area (proofs/Cramer, `det-is-area`).
+-- These are det and the three numerators, the terms of each value together; det is the doubled area (proofs/Cramer, `det-is-area`).
 abbrev pub det : Vertices → ℤ
 det v = v .x1 *ℤ (v .y2 -ℤ v .y3) +ℤ v .x2 *ℤ (v .y3 -ℤ v .y1) +ℤ v .x3 *ℤ (v .y1 -ℤ v .y2)
 
@@ -39,7 +39,7 @@ numerator v r p = numeratorA v r *ℤ p .px +ℤ numeratorB v r *ℤ p .py +ℤ 
 abbrev pub inUnits : ℤ → ℤ
 inUnits n = pos 65536 *ℤ n
 
--- "Round each of the three numbers down": n divided by d, which is positive where it is asked (proofs/Cramer, `rounded-down`)
+-- "Round each of the three numbers down": n divided by d, which is positive where it is asked (proofs/Rounding, `rounded-down`)
 unfoldable pub roundedDown : ℤ → ℤ → ℤ
 roundedDown n d = shrZ n (natAbs d)
 

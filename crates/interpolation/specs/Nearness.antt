@@ -7,7 +7,7 @@ use Rattle.rules.specs.declared.Plane.{Plane}
 use Rattle.rules.specs.declared.Vertices.{Vertices}
 use Rattle.rules.specs.Triangles.{sample, doubledArea}
 use Rattle.interpolation.specs.declared.Values.{Values}
-use Rattle.interpolation.specs.Interpolation.{numerator, inUnits, raise}
+use Rattle.interpolation.specs.Interpolation.{numerator, inUnits}
 
 -- what a plane has at pixel (x, y), before it is taken modulo 2^32
 abbrev pub valueAt : Plane → ℕ → ℕ → ℤ
@@ -23,18 +23,13 @@ exactTimes v r x y = inUnits (numerator v r (sample x y))
 -- "the plane must be above the exact value and by at most 1,119 units"
 pub record Near (v : Vertices) (r : Values) (p : Plane) (x y : ℕ) : Type 0 where
   pub above : exactTimes v r x y <ℤ planeTimes v p x y
-  pub at-most : planeTimes v p x y ≤ℤ (exactTimes v r x y +ℤ doubledArea v *ℤ raise)
-
--- what rounding down is: q is the greatest whole number whose product with d is not above n
-pub record RoundsDown (n d q : ℤ) : Type 0 where
-  pub not-above : (d *ℤ q) ≤ℤ n
-  pub greatest : n <ℤ (d *ℤ q +ℤ d)
+  pub at-most : planeTimes v p x y ≤ℤ (exactTimes v r x y +ℤ doubledArea v *ℤ pos 1119)
 
 -- the same value at each vertex
 abbrev pub flat : ℤ → Values
 flat n = record { r1 = n; r2 = n; r3 = n }
 
--- a value at each vertex from the least to the greatest of two
+-- each of the three values is from `least` to `greatest`
 pub record From (least greatest : ℤ) (r : Values) : Type 0 where
   pub first : (least ≤ℤ r .r1) × (r .r1 ≤ℤ greatest)
   pub second : (least ≤ℤ r .r2) × (r .r2 ≤ℤ greatest)

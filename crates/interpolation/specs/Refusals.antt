@@ -3,13 +3,12 @@ use mathlib.Core.Path.{_≡_}
 use mathlib.Core.Bool.{true, false}
 use Rattle.rules.specs.declared.Vertices.{Vertices}
 use Rattle.rules.specs.Triangles.{positive, doubledArea}
-use Rattle.rules.specs.Numbers.{verticesInRange, inSigned32}
+use Rattle.rules.specs.Numbers.{inSigned32}
 use Rattle.interpolation.specs.declared.Values.{Values}
 use Rattle.interpolation.specs.Interpolation.{valueInRange, throughC, throughA, throughB}
 
 -- all that is asked
 pub record HasPlane (v : Vertices) (r : Values) : Type 0 where
-  pub vertices : verticesInRange v ≡ true
   pub first : valueInRange (r .r1) ≡ true
   pub second : valueInRange (r .r2) ≡ true
   pub third : valueInRange (r .r3) ≡ true

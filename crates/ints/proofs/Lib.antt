@@ -4,3 +4,4 @@ pub mod Poly
 pub mod Order
 pub mod Bounds
 pub mod Machine
+pub mod Rounding

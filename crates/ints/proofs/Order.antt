@@ -6,7 +6,7 @@ use mathlib.Core.Path.{_≡_, refl, sym, ap, _∙_, subst}
 use mathlib.Core.Bool.{Bool, true, false, not}
 use mathlib.Core.List.{List, [], _∷_}
 use Prim.Native.Nat.{ℕ, zero, suc, _+_, _*_, _≤_, _<_}
-use native.Mathlib.Nat.{mul-suc}
+use native.Mathlib.Nat.{mul-suc, mul-add, lt-of-mul-lt-mul-left, le-of-mul-le-mul-left}
 use native.Mathlib.Omega.{arith}
 use lib.Dec.{T, leb, ltb, leb→le, le→leb, ltb→lt, lt→ltb}
 use lib.IntN.{ℤ, pos, negsuc, negℤ, natAbs, _+ℤ_, _-ℤ_, _*ℤ_, +ℤ-idr, +ℤ-invl}
@@ -184,7 +184,7 @@ flip a b = go (leb a b) refl
     go true e = ap not (sym (le-ltb b a (leb-true a b e)))
     go false e = ap not (sym (lt-ltb b a (leb-false a b e)))
 
-not-not : (t : Bool) → not (not t) ≡ t
+pub not-not : (t : Bool) → not (not t) ≡ t
 not-not true = refl
 not-not false = refl
 
@@ -273,6 +273,38 @@ mul-pos {a} {b} h k =
     let (m, e) = successor h in
     let (n, f) = successor k in
     subst (λ (x : ℤ). pos 0 <ℤ x) (sym (both _*ℤ_ e f)) (ltZ-yes (lt→ltb 0 (suc m * suc n) (omega (arith, mul-suc (suc m) n))))
+
+-- neither is above the other
+pub antisymmetric : {a b : ℤ} → a ≤ℤ b → b ≤ℤ a → a ≡ b
+antisymmetric {a} {b} h k =
+    is-eq (is-self a) (is-self b) (omega (arith, le-is (is-self a) (is-self b) h, le-is (is-self b) (is-self a) k))
+
+-- a positive factor may be left out
+module _ (k : ℕ) (u w : ℤ) where
+  sums : (a b : ℕ) → suc k * (a + b) ≡ suc k * a + suc k * b
+  sums = mul-add (suc k)
+
+  less : (pos (suc k) *ℤ u) <ℤ (pos (suc k) *ℤ w) → u <ℤ w
+  less l =
+      let n = lt-is (is-times (suc k) (is-self u)) (is-times (suc k) (is-self w)) l in
+      is-lt (is-self u) (is-self w) (lt-of-mul-lt-mul-left (suc k) (omega (arith, n, sums (up u) (dn w), sums (up w) (dn u))))
+
+  no-more : (pos (suc k) *ℤ u) ≤ℤ (pos (suc k) *ℤ w) → u ≤ℤ w
+  no-more l =
+      let n = le-is (is-times (suc k) (is-self u)) (is-times (suc k) (is-self w)) l in
+      is-le (is-self u) (is-self w)
+      (le-of-mul-le-mul-left {k = suc k} (omega (arith, n, sums (up u) (dn w), sums (up w) (dn u))) (omega arith))
+
+module _ {d u w : ℤ} (h : pos 0 <ℤ d) where
+  pub cancel-lt : (d *ℤ u) <ℤ (d *ℤ w) → u <ℤ w
+  cancel-lt l =
+      let (k, e) = successor h in
+      less k u w (subst (λ (z : ℤ). (z *ℤ u) <ℤ (z *ℤ w)) e l)
+
+  pub cancel-le : (d *ℤ u) ≤ℤ (d *ℤ w) → u ≤ℤ w
+  cancel-le l =
+      let (k, e) = successor h in
+      no-more k u w (subst (λ (z : ℤ). (z *ℤ u) ≤ℤ (z *ℤ w)) e l)
 
 -- a sum of three products of non-negative and positive numbers that is 0
 module _ {u v w : ℤ} {d e f : ℤ} where

@@ -3,18 +3,19 @@
 use Prim.Native.Nat.{ℕ, zero, suc}
 use mathlib.Core.Path.{_≡_, refl, sym, _∙_, ap}
 use mathlib.Core.Logic.{_⊎_, inl, inr}
-use mathlib.Core.Bool.{Bool, true, false, false≢true, true≢false}
+use mathlib.Core.Bool.{Bool, true, false, not, false≢true}
 use mathlib.Core.List.{List, [], _∷_}
 use native.Mathlib.Omega.{arith}
 use lib.IntN.{ℤ, pos, negsuc, negℤ, _+ℤ_}
-use lib.Signed.{_≤ℤ_, leZ-yes, ≤ℤ-refl}
+use lib.Signed.{_≤ℤ_}
 use Rattle.ints.proofs.Poly.{Exp, var, con, neg, _⊕_, _⊖_, _⊗_, solve}
-use Rattle.ints.proofs.Order.{le-to, eq-to, eq-of}
+use Rattle.ints.proofs.Order.{leZ-true, le-to, eq-to, eq-of}
 use Rattle.rules.specs.declared.Screen.{Screen}
 use Rattle.rules.specs.declared.Vertices.{Vertices}
 use Rattle.rules.specs.declared.Triangle.{Triangle}
 use Rattle.rules.specs.Sizes.{width, height}
 use Rattle.rules.specs.Triangles.{Point, edge1, edge2, edge3, edgeValue, positive, insideAll, sample, covered, coveredPixels, doubledArea}
+use Rattle.rules.proofs.Choices.{not-positive}
 use Rattle.rules.proofs.Folds.{pixels-none}
 use Rattle.rules.proofs.Closing.{no-value-below, not-three-zeros}
 use Rattle.order.specs.Sides.{Which, first, second, third}
@@ -37,10 +38,8 @@ module _ (v : Vertices) (p : Point) where
       ((var 2 ⊖ var 0) ⊗ (var 5 ⊖ var 1) ⊖ (var 4 ⊖ var 0) ⊗ (var 3 ⊖ var 1))
       tt
 
-not-positive : (z : ℤ) → positive z ≡ false → z ≤ℤ pos 0
-not-positive (pos zero) e = ≤ℤ-refl (pos 0)
-not-positive (pos (suc n)) e = absurd (true≢false e)
-not-positive (negsuc n) e = leZ-yes tt
+not-above : (z : ℤ) → positive z ≡ false → z ≤ℤ pos 0
+not-above z e = leZ-true z (pos 0) (not-positive z ∙ ap not e)
 
 module _ (t : Triangle) (p : Point) (h : insideAll (t .vertices) p ≡ true) where
   abbrev σ : List ℤ
@@ -58,7 +57,7 @@ module _ (t : Triangle) (p : Point) (h : insideAll (t .vertices) p ≡ true) whe
           let l1 = le-to σ (con (pos 0)) (var 0) (v .0) in
           let l2 = le-to σ (con (pos 0)) (var 1) (v .1) in
           let l3 = le-to σ (con (pos 0)) (var 2) (v .2) in
-          let d = le-to σ (var 3) (con (pos 0)) (not-positive (doubledArea (t .vertices)) e) in
+          let d = le-to σ (var 3) (con (pos 0)) (not-above (doubledArea (t .vertices)) e) in
           let s = eq-to σ (var 0 ⊕ var 1 ⊕ var 2) (var 3) (values-sum (t .vertices) p) in
           absurd (not-three-zeros (t .vertices) p h
           (eq-of σ (var 0) (con (pos 0)) (omega (arith, l1, l2, l3, d, s)))

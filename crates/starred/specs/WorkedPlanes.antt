@@ -70,7 +70,7 @@ steep = at (pos 90) (pos 5) (pos 175) (pos 6) (pos 89) (pos 776)
 
 unfoldable pub workedPlanes : List PlaneCase
 workedPlanes =
-    -- c is the first value raised by 1,119, a and b a quarter of what is between
+    -- c is the first value in units, raised by 1,119; a and b are a quarter of the way to the second and the third
     case (pos 0 ∷ pos 656479 ∷ pos 327680 ∷ pos 163840 ∷ []) (answer centres (values 10 30 20))
     -- area 1, 0 on a line, 0 in a point, and -1
     ∷ case (pos 0 ∷ pos 853087 ∷ pos 524288 ∷ pos 1048576 ∷ []) (answer small (values 1 2 3))
@@ -82,22 +82,22 @@ workedPlanes =
     ∷ case (pos 9 ∷ pos 0 ∷ pos 0 ∷ pos 0 ∷ []) (answer small (values 32767 32767 32768))
     ∷ case (pos 0 ∷ pos 1119 ∷ pos 0 ∷ pos 0 ∷ []) (answer small (values 0 0 0))
     ∷ case (pos 9 ∷ pos 0 ∷ pos 0 ∷ pos 0 ∷ []) (answer small (record { r1 = pos 0; r2 = minus 1; r3 = pos 0 }))
-    -- a thin triangle whose a alone is 2^31, and the greatest a that is given; then the least, and one below it
+    -- a thin triangle whose a alone is 2^31, and the greatest a below that which it can have; then -2^31, and the next a below that
     ∷ case (pos 9 ∷ pos 0 ∷ pos 0 ∷ pos 0 ∷ []) (answer thin (values 1 32001 1))
     ∷ case (pos 0 ∷ pos 33887 ∷ pos 2147483643 ∷ minus 1744830494 ∷ []) (answer thin (values 1 32001 0))
     ∷ case (pos 0 ∷ pos 2097153119 ∷ minus 2147483648 ∷ pos 1744830464 ∷ []) (answer thin (values 32000 0 32000))
     ∷ case (pos 9 ∷ pos 0 ∷ pos 0 ∷ pos 0 ∷ []) (answer thin (values 32000 0 31999))
     ∷ case (pos 66655 ∷ pos 2147483648 ∷ minus 1744830464 ∷ []) (numbers thin (values 1 32001 1))
-    -- b alone is 2^31, and inside; then its least, and one below it
+    -- b alone is 2^31, and the next below; then -2^31, and the next below
     ∷ case (pos 9 ∷ pos 0 ∷ pos 0 ∷ pos 0 ∷ []) (answer small (values 0 0 4096))
     ∷ case (pos 0 ∷ pos 1073480799 ∷ pos 0 ∷ pos 2146959360 ∷ []) (answer small (values 0 0 4095))
     ∷ case (pos 0 ∷ minus 805305249 ∷ pos 0 ∷ minus 2147483648 ∷ []) (answer small (values 4096 4096 0))
     ∷ case (pos 9 ∷ pos 0 ∷ pos 0 ∷ pos 0 ∷ []) (answer small (values 4097 4097 0))
-    -- the raised c alone is 2^31, 1,118 below it before; and 2^31 - 1
+    -- the raised c alone is 2^31, and before it is raised 2^31 - 1,119, which fits; then 2^31 - 1
     ∷ case (pos 9 ∷ pos 0 ∷ pos 0 ∷ pos 0 ∷ []) (answer even (values 32767 31026 32767))
     ∷ case (pos 0 ∷ pos 2147483647 ∷ minus 515328 ∷ minus 139520 ∷ []) (answer even (values 32767 31026 32766))
     ∷ case (pos 2147483648 ∷ minus 515336 ∷ minus 125352 ∷ []) (numbers even (values 32767 31026 32767))
-    -- c is -2^31, which raising brought in; and one below it
+    -- c is -2^31, which raising brought in; and -2^31 - 1
     ∷ case (pos 0 ∷ minus 2147483648 ∷ pos 199762680 ∷ pos 287656 ∷ []) (answer steep (values 0 32387 42))
     ∷ case (pos 9 ∷ pos 0 ∷ pos 0 ∷ pos 0 ∷ []) (answer steep (values 0 32387 41))
     -- 6 goes first, whatever else is wrong

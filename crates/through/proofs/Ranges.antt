@@ -22,7 +22,7 @@ use Rattle.interpolation.specs.declared.Values.{Values}
 use Rattle.interpolation.specs.Interpolation.{valueInRange, valuesInRange, numeratorA, numeratorB, numerator}
 use Rattle.interpolation.specs.Interpolation.{inUnits, raise, roundedDown, throughA, throughB, throughC}
 use Rattle.interpolation.proofs.Cramer.{a-by-differences, b-by-differences, by-differences}
-use Rattle.through.specs.Through.{InRange, Solvable, Small, determinant, Divides, Divisible}
+use Rattle.through.specs.Through.{InRange, Solvable, Small, determinant, CanDivide, CanDivideByArea}
 
 pub record VerticesWithin (v : Vertices) : Type 0 where
   pub x1 : Within 8192 (v .x1)
@@ -54,7 +54,7 @@ value-within r h =
     let b = and-true {a = leZ (pos 0) r} h in
     within-range (within-lit tt) (within-lit tt) (leZ-true (pos 0) r (b .0)) (leZ-true r (pos 32767) (b .1))
 
-pub values-within : (r : Values) → valuesInRange r ≡ true → ValuesWithin r
+values-within : (r : Values) → valuesInRange r ≡ true → ValuesWithin r
 unfolding valuesInRange
 values-within r h =
     let b = and-true {a = valueInRange (r .r1) && valueInRange (r .r2)} {b = valueInRange (r .r3)} h in
@@ -148,14 +148,14 @@ determinant-answer {m} {n} h ha hb hc hd he hf l k =
 
 -- a quotient, of numbers that the machine has
 
-pub rounded-within : {b : ℕ} {n : ℤ} (d : ℤ) → Within b n → Within b (roundedDown n d)
+rounded-within : {b : ℕ} {n : ℤ} (d : ℤ) → Within b n → Within b (roundedDown n d)
 unfolding roundedDown
 rounded-within d h = within-shr (natAbs d) h
 
-pub divides : {n d x y : ℤ} → x ≡ n → y ≡ d → Within 4611686018427387904 n → pos 0 <ℤ d → Divides x y
-divides {n} {d} p q h l = record {
+pub can-divide : {n d x y : ℤ} → x ≡ n → y ≡ d → Within 4611686018427387904 n → pos 0 <ℤ d → CanDivide x y
+can-divide {n} {d} p q h l = record {
   small = subst (λ (z : ℤ). natAbs z ≤ 4611686018427387904) (sym p) (h .within);
-  some = subst (λ (z : ℤ). pos 0 <ℤ z) (sym q) l;
+  positive = subst (λ (z : ℤ). pos 0 <ℤ z) (sym q) l;
 }
 
 -- in units
@@ -165,8 +165,8 @@ pub units-within : {n : ℤ} (v : Vertices)
     → Within 3459784826251378688 (roundedDown (inUnits n) (doubledArea v))
 units-within v h = rounded-within (doubledArea v) (within-mul (within-lit {n = 65536} {z = pos 65536} tt) h)
 
-pub divisible : {n z : ℤ} {v : Vertices} {r : Values} → Solvable v r → z ≡ n → Within 52792126865408 n → Divisible z v
-divisible h e w = record {
+pub can-divide-by-area : {n z : ℤ} {v : Vertices} {r : Values} → Solvable v r → z ≡ n → Within 52792126865408 n → CanDivideByArea z v
+can-divide-by-area h e w = record {
   small = subst (λ (y : ℤ). natAbs y ≤ 52792126865408) (sym e) (w .within);
   vertices = h .in-range .vertices;
   area = h .area;

@@ -20,7 +20,7 @@ pub record Solvable (v : Vertices) (r : Values) : Type 0 where
   pub in-range : InRange v r
   pub area : pos 0 <ℤ doubledArea v
 
--- three numbers that are vertex numbers or values in range, or at least no larger
+-- three numbers no larger than values in range
 pub record Small (a b c : ℤ) : Type 0 where
   pub first : natAbs a ≤ 32767
   pub second : natAbs b ≤ 32767
@@ -30,13 +30,13 @@ pub record Small (a b c : ℤ) : Type 0 where
 abbrev pub determinant : ℤ → ℤ → ℤ → ℤ → ℤ → ℤ → ℤ
 determinant p1 p2 p3 q1 q2 q3 = (p2 -ℤ p1) *ℤ (q3 -ℤ q1) -ℤ (p3 -ℤ p1) *ℤ (q2 -ℤ q1)
 
--- a positive divisor, and a number well inside 64 bits
-pub record Divides (n d : ℤ) : Type 0 where
+-- a positive divisor, and a number up to 2^62
+pub record CanDivide (n d : ℤ) : Type 0 where
   pub small : natAbs n ≤ 4611686018427387904
-  pub some : pos 0 <ℤ d
+  pub positive : pos 0 <ℤ d
 
--- a numerator, over the doubled area
-pub record Divisible (n : ℤ) (v : Vertices) : Type 0 where
+-- a numerator no larger than the one at pixel (0, 0) can be (`numerator-within`), over a positive doubled area
+pub record CanDivideByArea (n : ℤ) (v : Vertices) : Type 0 where
   pub small : natAbs n ≤ 52792126865408
   pub vertices : verticesInRange v ≡ true
   pub area : pos 0 <ℤ doubledArea v

@@ -9,8 +9,9 @@ ghost use mathlib.Core.Path.{_≡_};
 ghost use mathlib.Core.Bool.{true};
 ghost use Rattle.rules.specs.Triangles.{doubledArea, sample};
 ghost use Rattle.rules.specs.Numbers.{inSigned32, verticesInRange};
-ghost use Rattle.interpolation.specs.Interpolation.{PassesThrough, inUnits, numerator, numeratorA, numeratorB, roundedDown, throughA, throughB, throughC, valueInRange, valuesInRange};
-ghost use Rattle.through.specs.Through.{Divides, Divisible, InRange, Refuses, Small, Solvable, determinant};
+ghost use Rattle.interpolation.specs.Interpolation.{PassesThrough, inUnits, numerator, numeratorA, numeratorB, roundedDown};
+ghost use Rattle.interpolation.specs.Interpolation.{throughA, throughB, throughC, valueInRange, valuesInRange};
+ghost use Rattle.through.specs.Through.{CanDivide, CanDivideByArea, InRange, Refuses, Small, Solvable, determinant};
 
 // How much c is raised: as much as three roundings can lose at the last pixel, 1 + 639 + 479.
 const RAISE: i64 = 1119;
@@ -29,7 +30,7 @@ fn values_in_range(r: Values) -> bool
     value_in_range(r.r1) & value_in_range(r.r2) & value_in_range(r.r3)
 }
 
-// Cramer's determinants, of which the doubled area and the numerators of A and B are one each: by differences from the first row, two products.
+// A determinant of Cramer's rule, by differences from its first row: the doubled area is one, and so are the numerators of A and B.
 fn determinant(p1: i32, p2: i32, p3: i32, q1: i32, q2: i32, q3: i32) -> i64
     requires { ⌜ (Small p1 p2 p3) × (Small q1 q2 q3) ⌝ }
     ensures { λ z. ⌜ z ≡ determinant p1 p2 p3 q1 q2 q3 ⌝ }
@@ -70,9 +71,9 @@ fn numerator(v: Vertices, r: Values) -> i64
     r.r1 as i64 * doubled_area(v) + numerator_a(v, r) * right + numerator_b(v, r) * down
 }
 
-// A quotient is rounded toward zero, so one below zero is taken of what lies as far on the other side of the middle between 0 and -1.
+// n / d rounded down. Division rounds toward zero, so a negative n is folded to -1 - n first, and its quotient folded back.
 fn rounded_down(n: i64, d: i64) -> i64
-    requires { ⌜ Divides n d ⌝ }
+    requires { ⌜ CanDivide n d ⌝ }
     ensures { λ q. ⌜ q ≡ roundedDown n d ⌝ }
 {
     let m = if n < 0 { -1 - n } else { n };
@@ -99,8 +100,8 @@ fn refused(number: u32) -> Through
 }
 
 // Over the doubled area, in units, rounded down.
-fn in_units(n: i64, v: Vertices) -> i64
-    requires { ⌜ Divisible n v ⌝ }
+fn over_area(n: i64, v: Vertices) -> i64
+    requires { ⌜ CanDivideByArea n v ⌝ }
     ensures { λ q. ⌜ q ≡ roundedDown (inUnits n) (doubledArea v) ⌝ }
 {
     rounded_down(65536 * n, doubled_area(v))
@@ -110,21 +111,21 @@ fn through_c(v: Vertices, r: Values) -> i64
     requires { ⌜ Solvable v r ⌝ }
     ensures { λ c. ⌜ c ≡ throughC v r ⌝ }
 {
-    in_units(numerator(v, r), v) + RAISE
+    over_area(numerator(v, r), v) + RAISE
 }
 
 fn through_a(v: Vertices, r: Values) -> i64
     requires { ⌜ Solvable v r ⌝ }
     ensures { λ a. ⌜ a ≡ throughA v r ⌝ }
 {
-    in_units(8 * numerator_a(v, r), v)
+    over_area(8 * numerator_a(v, r), v)
 }
 
 fn through_b(v: Vertices, r: Values) -> i64
     requires { ⌜ Solvable v r ⌝ }
     ensures { λ b. ⌜ b ≡ throughB v r ⌝ }
 {
-    in_units(8 * numerator_b(v, r), v)
+    over_area(8 * numerator_b(v, r), v)
 }
 
 // The three numbers, or 9 where one does not fit.

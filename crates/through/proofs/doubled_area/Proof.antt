@@ -1,4 +1,4 @@
--- The doubled area is `determinant` of the columns and the rows, as it stands.
+-- The doubled area is `determinant` of the x's and the y's, as it stands.
 use native.Mathlib.Omega.{arith}
 use Rattle.rules.specs.Triangles.{doubledArea}
 use Rattle.through.proofs.Ranges.{VerticesWithin, vertices-within, area-within, answered, small, determinant-answer}

@@ -1,4 +1,4 @@
--- A's numerator is the determinant of the values and the rows.
+-- A's numerator is `determinant` of the values and the y's.
 use mathlib.Core.Path.{sym, _∙_}
 use native.Mathlib.Omega.{arith}
 use Rattle.interpolation.proofs.Cramer.{a-by-differences}

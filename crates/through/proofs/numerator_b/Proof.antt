@@ -1,4 +1,4 @@
--- B's numerator is the determinant of the columns and the values.
+-- B's numerator is `determinant` of the x's and the values.
 use mathlib.Core.Path.{sym, _∙_}
 use native.Mathlib.Omega.{arith}
 use Rattle.interpolation.proofs.Cramer.{b-by-differences}

@@ -1,18 +1,20 @@
 -- The tests in 02's order: 6 first, then the parts of 9 that are known before the plane is.
-use mathlib.Core.Path.{_≡_, sym, _∙_, ap}
-use mathlib.Core.Bool.{Bool, true, not}
+use mathlib.Core.Path.{_≡_, refl, sym, _∙_, ap}
+use mathlib.Core.Bool.{Bool, true, false, not}
 use native.Mathlib.Omega.{arith}
 use lib.IntN.{ℤ, pos}
 use lib.Signed.{leZ}
 use mir.Syntax.{w64}
 use mir.Val.{toZ, ofZ}
 use borrow.Author.Tests.{not-true, not-false}
+use Rattle.ints.proofs.Order.{not-not}
 use Rattle.rules.specs.Triangles.{positive, doubledArea}
 use Rattle.rules.specs.Numbers.{verticesInRange}
+use Rattle.rules.proofs.Choices.{positive-lt, not-positive}
 use Rattle.interpolation.specs.Interpolation.{valuesInRange}
-use Rattle.interpolation.proofs.Numbers.{positive-lt}
+use Rattle.interpolation.proofs.Numbers.{by-tests, values-outside, area-outside}
 use Rattle.through.proofs.Ranges.{vertices-within, area-within, answered}
-use Rattle.through.proofs.Answers.{not-not, not-positive, number-6, number-9, values-outside, area-outside, refuses}
+use Rattle.through.proofs.Answers.{refuses}
 use Rattle.through.proofs.plane_through.Statement.{statement}
 use Rattle.through.proofs.plane_through.Tie as tie
 
@@ -54,7 +56,7 @@ returns : tie.Need-returns
 returns c =
     let a = c .before .before .before .args in
     refuses (a .v) (a .r)
-    (number-6 (a .v) (a .r) (sym (c .before .before .vertices-in-range .ensures) ∙ not-true _ (c .before .if1 .taken)))
+    (by-tests (a .v) (a .r) false _ (sym (c .before .before .vertices-in-range .ensures) ∙ not-true _ (c .before .if1 .taken)) refl)
     (λ z. absurd (omega (arith, z)))
     (c .refused .ensures)
 
@@ -63,7 +65,7 @@ returns-2 c =
     let test = c .before .before in
     let a = start (test .before) .args in
     refuses (a .v) (a .r)
-    (number-9 (a .v) (a .r) (in-range (test .before))
+    (by-tests (a .v) (a .r) true true (in-range (test .before))
     (values-outside (a .v) (a .r) (sym (test .values-in-range .ensures) ∙ not-true _ (c .before .if2 .taken))))
     (λ z. absurd (omega (arith, z)))
     (c .refused2 .ensures)
@@ -73,7 +75,7 @@ returns-3 c =
     let area = c .before .before in
     let a = s area .args in
     refuses (a .v) (a .r)
-    (number-9 (a .v) (a .r) (in-range (ranged (both area)))
+    (by-tests (a .v) (a .r) true true (in-range (ranged (both area)))
     (area-outside (a .v) (a .r) (values-in (both area)) (is-positive area (c .before .if3 .taken))))
     (λ z. absurd (omega (arith, z)))
     (c .refused3 .ensures)

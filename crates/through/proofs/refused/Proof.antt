@@ -1,4 +1,4 @@
--- The number, and three zeros. Said here, a wrong refusal is refused by what it gives.
+-- The number, and three zeros. Written out, so that a wrong refusal fails here.
 use mathlib.Core.Path.{refl}
 use Rattle.through.proofs.refused.Statement.{statement}
 use Rattle.through.proofs.refused.Tie as tie

@@ -51,14 +51,14 @@ module _ (c : tie.Joined1) where
   foldedC = known (got-lit w64 18446744073709551615 tt) ⊟ quotientC
 
   q-is : quotZ (pos (folded (s .args .n))) (s .args .d) ≡ pos (folded (s .args .n) / natAbs (s .args .d))
-  q-is = quotient (folded (s .args .n)) (s .args .d) (s .pre .some)
+  q-is = quotient (folded (s .args .n)) (s .args .d) (s .pre .positive)
 
   -- the test, of the number itself
   side : {b : Bool} → ltZ (toZ w64 (ofZ w64 (s .args .n))) (pos 0) ≡ b → ltZ (s .args .n) (pos 0) ≡ b
   side h = sym (ap (λ (z : ℤ). ltZ z (pos 0)) (given s)) ∙ h
 
 div-q : tie.Need-div-q
-div-q c = (some (c .before .args .d) (c .before .pre .some), need (quotientC c) tt)
+div-q c = (some (c .before .args .d) (c .before .pre .positive), need (quotientC c) tt)
 
 sub-result : tie.Need-sub-result
 sub-result c = need (foldedC (c .before)) tt

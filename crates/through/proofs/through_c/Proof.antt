@@ -7,7 +7,7 @@ use Rattle.ints.proofs.Bounds.{Within}
 use Rattle.ints.proofs.Machine.{got-lit, Code, known, _⊞_, need, reads-as}
 use Rattle.rules.specs.Triangles.{sample, doubledArea}
 use Rattle.interpolation.specs.Interpolation.{numerator, inUnits, roundedDown, throughC}
-use Rattle.through.proofs.Ranges.{all-within, numerator-within, got-answer, answered, units-within, divisible}
+use Rattle.through.proofs.Ranges.{all-within, numerator-within, got-answer, answered, units-within, can-divide-by-area}
 use Rattle.through.proofs.through_c.Statement.{statement}
 use Rattle.through.proofs.through_c.Tie as tie
 
@@ -24,12 +24,12 @@ module _ (c : tie.After-numerator) where
   is-exact : toZ w64 (ofZ w64 (c .numerator .result)) ≡ exact
   is-exact = answered (c .numerator .ensures) within tt
 
-abbrev raisedC : tie.After-in-units → Code w64
+abbrev raisedC : tie.After-over-area → Code w64
 raisedC c =
     let d = doubledArea (start (c .before) .args .v) in
     known
     (got-answer
-    (c .in-units .ensures ∙ ap (λ (z : ℤ). roundedDown (inUnits z) d) (is-exact (c .before)))
+    (c .over-area .ensures ∙ ap (λ (z : ℤ). roundedDown (inUnits z) d) (is-exact (c .before)))
     (units-within (start (c .before) .args .v) (within (c .before)))
     tt)
     ⊞ known (got-lit w64 1119 tt)
@@ -43,6 +43,6 @@ through-c-spec =
     tie.close
     (tie.spec
     (λ c κs. c .pre .in-range)
-    (λ c κs. divisible (start c .pre) (is-exact c) (within c))
+    (λ c κs. can-divide-by-area (start c .pre) (is-exact c) (within c))
     (λ c. need (raisedC c) tt)
     returns)

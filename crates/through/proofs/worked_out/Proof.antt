@@ -1,6 +1,6 @@
 -- The three numbers are the plane's; where all fit 32 bits they are given, else 9.
 use mathlib.Core.Path.{_≡_, refl, sym, _∙_, ap, ap₂, subst}
-use mathlib.Core.Bool.{Bool, true, _&&_, not}
+use mathlib.Core.Bool.{Bool, true, false, _&&_, not}
 use native.Mathlib.Omega.{arith}
 use lib.IntN.{ℤ}
 use borrow.Author.Tests.{not-true, not-false}
@@ -10,10 +10,12 @@ use mir.ValLaws.{toZ-ofZ}
 use Rattle.rules.specs.declared.Vertices.{Vertices}
 use Rattle.rules.specs.Triangles.{doubledArea}
 use Rattle.rules.specs.Numbers.{inSigned32}
+use Rattle.rules.proofs.Choices.{lt-positive}
 use Rattle.interpolation.specs.declared.Values.{Values}
 use Rattle.interpolation.specs.Interpolation.{throughC, throughA, throughB, planeThrough, planeInRange, hasNoPlane}
+use Rattle.interpolation.proofs.Numbers.{by-tests, plane-outside}
 use Rattle.through.proofs.Ranges.{AllWithin, all-within, c-small, a-small, b-small, answered}
-use Rattle.through.proofs.Answers.{lt-positive, number-9, number-0, plane-outside, refuses, passes, fits, three}
+use Rattle.through.proofs.Answers.{refuses, passes, fits, three}
 use Rattle.through.proofs.worked_out.Statement.{statement}
 use Rattle.through.proofs.worked_out.Tie as tie
 
@@ -93,7 +95,7 @@ returns : tie.Need-returns
 returns c =
     let all = c .before .before in
     refuses (v all) (r all)
-    (number-9 (v all) (r all) (start (worked all) .pre .in-range .vertices) (judged all (not-true _ (c .before .if1 .taken))))
+    (by-tests (v all) (r all) true true (start (worked all) .pre .in-range .vertices) (judged all (not-true _ (c .before .if1 .taken))))
     (λ z. absurd (omega (arith, z)))
     (c .refused .ensures)
 
@@ -102,7 +104,7 @@ unfolding planeThrough
 returns-2 c =
     let all = t c in
     passes (v all) (r all)
-    (number-0 (v all) (r all) (start (worked all) .pre .in-range .vertices) (judged all (not-false _ (c .if1 .left))))
+    (by-tests (v all) (r all) true false (start (worked all) .pre .in-range .vertices) (judged all (not-false _ (c .if1 .left))))
     refl
     (λ i.
     record {

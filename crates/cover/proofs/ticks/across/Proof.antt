@@ -10,7 +10,8 @@ use Rattle.ints.proofs.Poly.{var, con, neg, _⊖_, _⊗_, solve}
 use Rattle.ints.proofs.Order.{le-of, lt-to, ltZ-true}
 use Rattle.ints.proofs.Bounds.{abs-neg, abs-mul}
 use Rattle.ints.proofs.Machine.{got-arg, Code, known, _⊟_, _⊠_, need, got-of, reads-as, need-unsigned}
-use Rattle.cover.proofs.Signs.{below, positive-true, zeroC, read-above, read-below, above-zero, below-zero, neither-zero}
+use Rattle.rules.proofs.Choices.{positive-lt}
+use Rattle.cover.proofs.Signs.{below, zeroC, read-above, read-below, above-zero, below-zero, neither-zero}
 use Rattle.edges.proofs.Codes.{eightC}
 use Rattle.cover.proofs.ticks.across.Statement.{statement}
 use Rattle.cover.proofs.ticks.across.Tie as tie
@@ -26,7 +27,7 @@ up-natural c =
     let z = c .before .args .dy in
     let ρ : List ℤ = z ∷ [] in
     le-of ρ (con (pos 0)) (con (pos 8) ⊗ var 0)
-    (omega (arith, lt-to ρ (con (pos 0)) (var 0) (positive-true z (read-above z (c .before .fits .dy) (c .if1 .taken)))))
+    (omega (arith, lt-to ρ (con (pos 0)) (var 0) (positive-lt z (read-above z (c .before .fits .dy) (c .if1 .taken)))))
 
 down-natural : (c : tie.Then2) → pos 0 ≤ℤ (pos 0 -ℤ pos 8 *ℤ c .before .before .args .dy)
 down-natural c =

@@ -7,9 +7,9 @@ use Rattle.ints.proofs.Bounds.{within-le}
 use Rattle.ints.proofs.Machine.{got-arg, got-lit, Code, known, _⊠_, need, got-of, reads-as}
 use Rattle.rules.specs.Triangles.{doubledArea}
 use Rattle.interpolation.specs.Interpolation.{roundedDown}
-use Rattle.through.proofs.Ranges.{vertices-within, area-within, answered, units-within, divides}
-use Rattle.through.proofs.in_units.Statement.{statement}
-use Rattle.through.proofs.in_units.Tie as tie
+use Rattle.through.proofs.Ranges.{vertices-within, area-within, answered, units-within, can-divide}
+use Rattle.through.proofs.over_area.Statement.{statement}
+use Rattle.through.proofs.over_area.Tie as tie
 
 abbrev unitsC : tie.Start → Code w64
 unitsC s = known (got-lit w64 65536 tt) ⊠ known (got-arg (s .fits .n) (record { within = s .pre .small }))
@@ -22,7 +22,7 @@ divisor c =
 rounded-down-requires : tie.Need-rounded-down-requires
 rounded-down-requires c κs =
     let s = c .before in
-    divides (reads-as (unitsC s) tt) (divisor c) (within-le (omega arith) (got-of (unitsC s) tt .bound)) (s .pre .area)
+    can-divide (reads-as (unitsC s) tt) (divisor c) (within-le (omega arith) (got-of (unitsC s) tt .bound)) (s .pre .area)
 
 returns : tie.Need-returns
 returns c =
@@ -32,8 +32,8 @@ returns c =
     (units-within {n = s .args .n} (s .args .v) (record { within = s .pre .small }))
     tt
 
-pub in-units-spec : {M : Type 1} → statement M
-in-units-spec =
+pub over-area-spec : {M : Type 1} → statement M
+over-area-spec =
     tie.close
     (tie.spec
     (λ c. need (unitsC c) tt)
