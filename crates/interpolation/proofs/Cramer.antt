@@ -1,5 +1,5 @@
--- Cramer's rule does what it is for: its denominator is the doubled area, its plane has each vertex's value there, its numerator is the three
--- values weighted by the edge values, and from pixel to pixel it goes in equal steps. All are identities of polynomials.
+-- Cramer's rule does what it is for: its denominator is the doubled area, its plane has each vertex's value there, its numerator is the
+-- three values weighted by the edge values, and from pixel to pixel it goes in equal steps. All are identities of polynomials.
 use Prim.Native.Nat.{ℕ}
 use mathlib.Core.Path.{_≡_}
 use mathlib.Core.List.{List, [], _∷_}
