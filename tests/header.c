@@ -137,7 +137,7 @@ static int none(merikohin_through t, uint32_t number)
     return t.number == number && t.plane.c == 0 && t.plane.a == 0 && t.plane.b == 0;
 }
 
-/* Planes worked out by hand; c, a and b at both ends of signed 32 bits, and just past them. */
+/* Planes worked out by hand; c at both ends of signed 32 bits, a and b at the lower, the greatest a that there is, and just past them. */
 static void planes_through_values(void)
 {
     HOLDS(is(through(4, 4, 36, 4, 4, 36, 10, 30, 20), 10 * 65536 + 1119, 5 * 65536, 5 * 32768));
@@ -155,6 +155,8 @@ static void planes_through_values(void)
     HOLDS(none(through(4, 4, 5, 4, 4, 5, 4097, 0, 4097), MERIKOHIN_NO_PLANE));
     HOLDS(is(through(4, 4, 5, 4, 4, 5, 0, 4095, 0), 1119, 4095 * 524288, 0));
     HOLDS(none(through(4, 4, 5, 4, 4, 5, 0, 4096, 0), MERIKOHIN_NO_PLANE));
+    HOLDS(is(through(-6496, -7996, -6489, -7997, 6504, 8004, 1, 32001, 0), 33887, 2147483643, -1744830494));
+    HOLDS(none(through(-6496, -7996, -6489, -7997, 6504, 8004, 1, 32001, 1), MERIKOHIN_NO_PLANE));
     HOLDS(is(through(4, 4, 5, 4, 4, 5, 4096, 4096, 0), 4096 * 65536 + 1119, 0, INT32_MIN));
     HOLDS(none(through(4, 4, 5, 4, 4, 5, 4097, 4097, 0), MERIKOHIN_NO_PLANE));
     HOLDS(is(through(4, 4, 5, 4, 4, 5, 0, 0, 4095), 1119, 0, 4095 * 524288));
@@ -178,6 +180,7 @@ static void no_plane(void)
         HOLDS(none(through(0, 0, 8, 0, 0, 8, 0, r, 0), MERIKOHIN_NO_PLANE));
         HOLDS(none(through(0, 0, 8, 0, 0, 8, 0, 0, r), MERIKOHIN_NO_PLANE));
         HOLDS(none(through(0, 0, 8, 8, 16, 16, r, r, r), MERIKOHIN_NO_PLANE));
+        HOLDS(none(through(0, 0, 0, 8, 8, 0, r, r, r), MERIKOHIN_NO_PLANE));
         HOLDS(none(through(v, v, v, v, v, v, r, r, r), MERIKOHIN_VERTEX_OUT_OF_RANGE));
     }
     HOLDS(none(through(0, 0, 8, 8, 16, 16, 1, 1, 1), MERIKOHIN_NO_PLANE));

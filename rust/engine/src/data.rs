@@ -89,7 +89,7 @@ impl From<[Vertex; 3]> for Vertices {
 ///
 /// The colour is red × 2048 + green × 32 + blue, as in [`crate::clear`], so it has
 /// no part out of range. The depth goes from 0, the nearest, to 32767
-/// ([`crate::VALUE_MOST`]), half as far as that of a clear.
+/// ([`crate::VALUE_MOST`]); a clear's goes to 65535.
 #[derive(Clone, Copy, Debug, Default, PartialEq, Eq, Hash)]
 pub struct Vertex {
     pub x: i32,

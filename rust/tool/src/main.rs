@@ -50,8 +50,9 @@ triangle how many pixels it covered and wrote. -o: writes the screen (.png, .ppm
   triangle vertex X Y COLOUR DEPTH vertex X Y COLOUR DEPTH vertex X Y COLOUR DEPTH
   triangle X1 Y1 X2 Y2 X3 Y3 [depth C A B] [red C A B] [green C A B] [blue C A B]
 
-Vertices are in eighths of a pixel, clockwise. A colour is a number, or RED,GREEN,BLUE up to 31,63,31.",
-        "merikohin draw examples/scenes/pair.txt -o pair.png",
+Vertices are in eighths of a pixel, clockwise. A colour is a number, or RED,GREEN,BLUE up to 31,63,31. Depths are from 0,
+the nearest, to 65535; at a vertex to 32767.",
+        "merikohin draw examples/scenes/shaded.txt -o shaded.png",
     ),
     (
         "why",

@@ -144,8 +144,14 @@ fn fields<'a, const N: usize>(
 /// A colour: one number, or its red, green and blue with commas between them.
 pub fn colour(name: &str, text: &str) -> Result<u16, Problem> {
     let parts: Vec<&str> = text.split(',').collect();
-    if parts.len() != 3 {
+    if parts.len() == 1 {
         return number(name, text);
+    }
+    if parts.len() != 3 {
+        return Err(Problem::new(
+            problem::NO_NUMBER,
+            format!("{name} = {text}, neither one number nor red,green,blue"),
+        ));
     }
     let mut colour = 0;
     for ((part, most), text) in [("red", 31), ("green", 63), ("blue", 31)].into_iter().zip(parts) {
@@ -244,8 +250,8 @@ mod tests {
             ("0,0,32", "113: the number does not fit: blue of colour = 32, above 31"),
             ("0,-1,0", "113: the number does not fit: green of colour = -1"),
             ("1,,2", "116: this is not a number: green of colour = "),
-            ("1,2", "116: this is not a number: colour = 1,2"),
-            ("1,2,3,4", "116: this is not a number: colour = 1,2,3,4"),
+            ("1,2", "116: this is not a number: colour = 1,2, neither one number nor red,green,blue"),
+            ("1,2,3,4", "116: this is not a number: colour = 1,2,3,4, neither one number nor red,green,blue"),
         ] {
             assert_eq!(colour("colour", text).unwrap_err().to_string(), wanted);
         }

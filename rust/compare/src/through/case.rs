@@ -94,10 +94,6 @@ fn in_words(seen: &ThroughSeen) -> String {
     format!("number {}, c {c}, a {a}, b {b}{alike}", seen.number)
 }
 
-// ---------------------------------------------------------------------------
-// Text form.
-// ---------------------------------------------------------------------------
-
 impl fmt::Display for Case {
     fn fmt(&self, f: &mut fmt::Formatter<'_>) -> fmt::Result {
         let ([x1, y1, x2, y2, x3, y3], [r1, r2, r3]) = (self.vertices, self.values);

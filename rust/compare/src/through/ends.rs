@@ -37,10 +37,6 @@ fn step_fits(case: &Case, step: i64) -> bool {
     (-32768 * case.area()..32768 * case.area()).contains(&step)
 }
 
-// ---------------------------------------------------------------------------
-// a and b.
-// ---------------------------------------------------------------------------
-
 /// A case whose value rises by so much for each eighth to the right, and by `off`
 /// divided by its doubled area more. None if the random numbers give none.
 fn steep(rng: &mut Rng, rise: i64, off: i64) -> Option<Case> {
@@ -90,10 +86,6 @@ pub fn steps(run: &mut Run, rng: &mut Rng) {
     }
     run.note(format!("a and b from {least} to {greatest}"));
 }
-
-// ---------------------------------------------------------------------------
-// c.
-// ---------------------------------------------------------------------------
 
 /// A case whose c, rounded down and not yet raised, is this. None if the random
 /// numbers give none.

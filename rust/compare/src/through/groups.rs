@@ -25,10 +25,6 @@ pub fn all(run: &mut Run) {
     run.group("random planes", random::requests);
 }
 
-// ---------------------------------------------------------------------------
-// Building blocks.
-// ---------------------------------------------------------------------------
-
 /// What a plane through three equal values is.
 fn flat_plane(value: i32) -> [i32; 3] {
     [value * 65536 + 1119, 0, 0]
@@ -70,10 +66,6 @@ const THIN: [i32; 6] = [4, 4, 5, 4, 4, 5];
 /// With a value at the second vertex that is far from the others, a alone does
 /// not fit, b alone, and c alone.
 const ONE_OUT: [[i32; 6]; 3] = [THIN, [4, 4, 4, 5, 3, 4], [8000, 8000, 8100, 8000, 8000, 8100]];
-
-// ---------------------------------------------------------------------------
-// The groups.
-// ---------------------------------------------------------------------------
 
 /// A third of a value for each pixel.
 const THIRDS: [i32; 6] = [4, 4, 28, 4, 4, 28];
