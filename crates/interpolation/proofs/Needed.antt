@@ -1,5 +1,6 @@
--- 1,119 is needed: at the last pixel of the largest screen there is a covered pixel where one unit less is not above the exact value.
--- That it is not too much either, a flat plane shows (`flat-attains`). Both numbers are computed.
+-- Both ends of the bound are needed, at pixels that are covered. Raised by one unit less, c gives a plane that is not above the exact value
+-- at the last pixel of the largest screen; and three equal values give one that is 1,119 units above it. Both by computation;
+-- `flat-attains` has the second for every triangle.
 use mathlib.Core.Path.{_≡_, refl}
 use mathlib.Core.Bool.{true}
 use lib.IntN.{pos, negsuc, _+ℤ_, _-ℤ_, _*ℤ_}

@@ -7,7 +7,7 @@ use Rattle.rules.specs.Numbers.{inSigned32}
 use Rattle.interpolation.specs.declared.Values.{Values}
 use Rattle.interpolation.specs.Interpolation.{valueInRange, throughC, throughA, throughB}
 
--- all that is asked
+-- all that is asked beside vertices in range
 pub record HasPlane (v : Vertices) (r : Values) : Type 0 where
   pub first : valueInRange (r .r1) ≡ true
   pub second : valueInRange (r .r2) ≡ true

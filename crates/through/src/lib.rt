@@ -13,7 +13,7 @@ ghost use Rattle.interpolation.specs.Interpolation.{PassesThrough, inUnits, num
 ghost use Rattle.interpolation.specs.Interpolation.{throughA, throughB, throughC, valueInRange, valuesInRange};
 ghost use Rattle.through.specs.Through.{CanDivide, CanDivideByArea, InRange, Refuses, Small, Solvable, determinant};
 
-// How much c is raised: as much as three roundings can lose at the last pixel, 1 + 639 + 479.
+// How much c is raised: three roundings lose less than this at the last pixel, 1 + 639 + 479.
 const RAISE: i64 = 1119;
 
 // Whether a value is in 0..32767.
