@@ -2,4 +2,5 @@
 pub mod arithmetic;
 pub mod dot;
 pub mod fields;
+pub mod reciprocals;
 pub mod signed;

@@ -1,12 +1,12 @@
 // The instructions that put a result of the registers in r1: LI, and ADD to ASRI.
 use alu::arithmetic::difference;
-use alu::arithmetic::reciprocal;
 use alu::arithmetic::rounded_product;
 use alu::arithmetic::shifted_left;
 use alu::arithmetic::shifted_right;
 use alu::arithmetic::shifted_signed;
 use alu::fields::imm;
 use alu::fields::immediate;
+use alu::reciprocals::recp;
 use pieces::registers::address_in;
 use pieces::registers::in_r2;
 use pieces::registers::in_r3;
@@ -17,6 +17,7 @@ use words::sum32;
 ghost use mathlib.Core.Path.{_≡_};
 ghost use Rattle.instructions.specs.Opcodes.{LI, ADD, SUB, MUL, MULF, RECP, AND, OR, XOR, NOT, LSL, LSR, ASR, LSLI, LSRI, ASRI};
 ghost use Rattle.instructions.specs.Words.{opcode};
+ghost use Rattle.alu.specs.Reciprocals.{Reciprocals};
 ghost use Rattle.pieces.specs.Steps.{Going, RegisterSteps};
 
 pub fn do_li(w: u32, regs: &mut [u32; 32], cpu: Cpu) -> Cpu
@@ -59,11 +60,11 @@ pub fn do_mulf(w: u32, regs: &mut [u32; 32], cpu: Cpu) -> Cpu
     put_result(w, regs, cpu, v)
 }
 
-pub fn do_recp(w: u32, regs: &mut [u32; 32], cpu: Cpu) -> Cpu
-    requires { ⌜ (opcode w ≡ RECP) × Going (now regs) cpu ⌝ }
+pub fn do_recp(w: u32, regs: &mut [u32; 32], cpu: Cpu, table: &[u32]) -> Cpu
+    requires { ⌜ (opcode w ≡ RECP) × Going (now regs) cpu × Reciprocals (now table) ⌝ }
     ensures { λ r. ⌜ RegisterSteps w (now (regs .entry)) cpu (now (regs .exit)) r ⌝ }
 {
-    let v = reciprocal(in_r2(regs, w));
+    let v = recp(in_r2(regs, w), table);
     put_result(w, regs, cpu, v)
 }
 

@@ -1,13 +1,18 @@
 // The machine's run: each step in turn, to the budget or to a halt.
 use alu::fields::opcode;
+use alu::reciprocals::reciprocals;
 use pieces::state::Cpu;
 use pieces::state::View;
 use pieces::state::stopped;
 use steps::arms::plain_step;
 use steps::arms::view_step;
 use steps::opcodes::WRITE;
+ghost use Rattle.alu.specs.Reciprocals.{Reciprocals};
 ghost use Rattle.pieces.specs.Pieces.{machine};
 ghost use Rattle.runs.specs.Runs.{Ends, Ready};
+
+// A run that is allowed so many steps copies the table: where it takes them all, that is one in a hundred of its instructions or fewer.
+const LONG: u64 = 1024;
 
 // What a run leaves of the pieces by value, and the steps carried out.
 pub struct Ended {
@@ -17,7 +22,7 @@ pub struct Ended {
 }
 
 // A halting step ends the run, and is not counted. The two kinds of step end apart, so that one up to WRITE copies no tree.
-pub fn run(
+fn run_with(
     program: &[u32],
     regs: &mut [u32; 32],
     memory: &mut [u32],
@@ -25,8 +30,9 @@ pub fn run(
     first: Cpu,
     given: View,
     budget: u64,
+    table: &[u32],
 ) -> Ended
-    requires { ⌜ Ready (now program) (machine (now regs) first given (now memory) (now ram)) ⌝ }
+    requires { ⌜ Ready (now program) (machine (now regs) first given (now memory) (now ram)) × Reciprocals (now table) ⌝ }
     ensures { λ r. ⌜ Ends (now (program .entry)) budget (machine (now (regs .entry)) first given (now (memory .entry)) (now (ram .entry))) (r .steps) (machine (now (regs .exit)) (r .cpu) (r .view) (now (memory .exit)) (now (ram .exit))) ⌝ }
 {
     let mut cpu = first;
@@ -43,7 +49,7 @@ pub fn run(
         }
         let w = program[place];
         if opcode(w) <= WRITE {
-            cpu = plain_step(w, regs, memory, ram, cpu);
+            cpu = plain_step(w, regs, memory, ram, cpu, table);
             if cpu.halt != 0 {
                 return Ended { cpu, view, steps };
             }
@@ -59,4 +65,25 @@ pub fn run(
         }
     }
     Ended { cpu, view, steps }
+}
+
+// A run that may be long has its copy of the table, and lends it to all its steps. A shorter one lends them none, and they divide.
+pub fn run(
+    program: &[u32],
+    regs: &mut [u32; 32],
+    memory: &mut [u32],
+    ram: &mut [u8],
+    first: Cpu,
+    given: View,
+    budget: u64,
+) -> Ended
+    requires { ⌜ Ready (now program) (machine (now regs) first given (now memory) (now ram)) ⌝ }
+    ensures { λ r. ⌜ Ends (now (program .entry)) budget (machine (now (regs .entry)) first given (now (memory .entry)) (now (ram .entry))) (r .steps) (machine (now (regs .exit)) (r .cpu) (r .view) (now (memory .exit)) (now (ram .exit))) ⌝ }
+{
+    if budget < LONG {
+        let none: [u32; 0] = [];
+        return run_with(program, regs, memory, ram, first, given, budget, &none);
+    }
+    let table = reciprocals();
+    run_with(program, regs, memory, ram, first, given, budget, &table)
 }

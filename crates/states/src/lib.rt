@@ -42,14 +42,18 @@ pub fn fresh() -> State
     }
 }
 
-// `len` is that of the RAM. A screen and a tree's place are judged only where there is a screen.
+// `len` is that of the RAM. A halt number that the rules do not have is answered at once, which makes a call shorter; a screen and a
+// tree's place are judged only where there is a screen.
 pub fn ill_formed(len: usize, state: State) -> bool
     ensures { λ r. ⌜ r ≡ illFormed len state ⌝ }
 {
     let regs = state.regs;
     let halt = state.halt;
     let known = (halt == 0) | (11 <= halt) & (halt <= 17);
-    let wrong = (regs[0] != 0) | !known;
+    if !known {
+        return true;
+    }
+    let wrong = regs[0] != 0;
     if !state.shown {
         return wrong | state.planted;
     }

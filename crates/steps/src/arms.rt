@@ -86,8 +86,15 @@ ghost use Rattle.pieces.specs.Steps.{Steps, ViewSteps, plain, viewing};
 ghost use Rattle.steps.specs.Fits.{PlainFits, ViewFits};
 
 // An instruction up to WRITE. No word reaches the last arm.
-pub fn plain_step(w: u32, regs: &mut [u32; 32], memory: &mut [u32], ram: &mut [u8], cpu: Cpu) -> Cpu
-    requires { ⌜ PlainFits w (plain (now regs) cpu (now memory) (now ram)) ⌝ }
+pub fn plain_step(
+    w: u32,
+    regs: &mut [u32; 32],
+    memory: &mut [u32],
+    ram: &mut [u8],
+    cpu: Cpu,
+    table: &[u32],
+) -> Cpu
+    requires { ⌜ PlainFits w (plain (now regs) cpu (now memory) (now ram)) (now table) ⌝ }
     ensures { λ r. ⌜ Steps w (plain (now (regs .entry)) cpu (now (memory .entry)) (now (ram .entry))) (plain (now (regs .exit)) r (now (memory .exit)) (now (ram .exit))) ⌝ }
 {
     match opcode(w) {
@@ -98,7 +105,7 @@ pub fn plain_step(w: u32, regs: &mut [u32; 32], memory: &mut [u32], ram: &mut [u
         SUB => do_sub(w, regs, cpu),
         MUL => do_mul(w, regs, cpu),
         MULF => do_mulf(w, regs, cpu),
-        RECP => do_recp(w, regs, cpu),
+        RECP => do_recp(w, regs, cpu, table),
         AND => do_and(w, regs, cpu),
         OR => do_or(w, regs, cpu),
         XOR => do_xor(w, regs, cpu),

@@ -14,8 +14,8 @@ use Rattle.results.proofs.do_recp.Tie as tie
 in-r2-requires : tie.Need-in-r2-requires
 in-r2-requires c κs = search needs
 
-reciprocal-requires : tie.Need-reciprocal-requires
-reciprocal-requires c κs = search needs
+recp-requires : tie.Need-recp-requires
+recp-requires c κs = search needs
 
 put-result-requires : tie.Need-put-result-requires
 put-result-requires c κs = search needs
@@ -24,16 +24,16 @@ returns : tie.Need-returns
 returns c =
     let v = c .before .before in
     let first = v .before in
-    let start = first .before .before in
+    let start = first .before .before .before in
     let a = start .args in
     let e : opcode (a .w) ≡ RECP = start .pre .0 in
     register-result (now (a .regs)) (a .cpu) (a .w) _ _ _ (omega (arith, e), omega (arith, e))
     (λ memory.
-    v .reciprocal .ensures
+    v .recp .ensures
     ∙ ap reciprocal (first .in-r2 .ensures)
     ∙ sym (result-RECP memory (now (a .regs)) (a .w) e))
     (c .put-result .ensures)
 
 pub do-recp-spec : {M : Type 1} → statement M
 do-recp-spec =
-    tie.close (tie.spec in-r2-requires reciprocal-requires put-result-requires returns)
+    tie.close (tie.spec in-r2-requires recp-requires put-result-requires returns)

@@ -13,20 +13,23 @@ use borrow.Author.Needs.{needs}
 use Rattle.steps.proofs.arms.plain_step.Statement.{statement}
 use Rattle.steps.proofs.arms.plain_step.Tie as tie
 
+abbrev start-of : tie.After-opcode → tie.Start
+start-of c = c .before .before .before .before
+
 abbrev memory-of : tie.After-opcode → List ℕ
-memory-of c = now (c .before .before .before .args .memory)
+memory-of c = now (start-of c .args .memory)
 
 abbrev ram-of : tie.After-opcode → List ℕ
-ram-of c = now (c .before .before .before .args .ram)
+ram-of c = now (start-of c .args .ram)
 
 -- what a conditional jump may count on, at either of its opcodes
 likely : (k : ℕ) (c : tie.After-opcode) {n : ℕ}
     → c .opcode .result ≡ n
     → isPlainOrLikely k n ≡ true
-    → let a = c .before .before .before .args in
+    → let a = start-of c .args in
     (isPlainOrLikely k (opcode (a .w)) ≡ true) × (a .cpu .place < 1024)
 likely k c e h =
-    (ap (isPlainOrLikely k) (sym (c .opcode .ensures) ∙ e) ∙ h, c .before .before .before .pre .going .inside)
+    (ap (isPlainOrLikely k) (sym (c .opcode .ensures) ∙ e) ∙ h, start-of c .pre .going .inside)
 
 opcode-requires : tie.Need-opcode-requires
 opcode-requires c κs = search needs
@@ -331,9 +334,8 @@ returns-36 : tie.Need-returns-36
 unfolding NoneOf
 returns-36 c =
     let o = c .before .before in
-    let start = o .before .before .before in
     let h = past 0 (o .opcode .result) 35 (omega arith) (c .before .match .rest) in
-    absurd (omega (arith, h, o .opcode .ensures, start .pre .low))
+    absurd (omega (arith, h, o .opcode .ensures, start-of o .pre .low))
 
 pub plain-step-spec : {M : Type 1} → statement M
 plain-step-spec =

@@ -1,0 +1,2 @@
+-- The table of reciprocals.
+pub mod Reciprocals
