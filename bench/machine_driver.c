@@ -28,9 +28,13 @@ const int subject_count = RUNS;
 
 const struct named workloads[] = {
     {"arithmetic", "arithmetic loop"},
+    {"recp-small", "RECP loop, operands 1 to 512"},
+    {"recp-large", "RECP loop, operands above 512"},
+    {"recp-mixed", "RECP loop, operands of both kinds"},
     {"dot", "DOT loop"},
     {"raster", "rasterization loop, 640 by 480"},
     {"moves", "READ and WRITE of a whole screen"},
+    {"run-1024", "arithmetic loop, a run of 1,024 steps"},
     {"single", "arithmetic loop, a run of one step"},
     {"step", "arithmetic loop, a step (C: a run of one step)"},
 };
@@ -78,6 +82,31 @@ static void arithmetic(void)
     rrr(ADD, 1, 1, 7);
     rrr(SUB, 0, 1, 2);
     jump(JLT, turn);
+    jump(JMP, 0);
+}
+
+/* Over and over, 512 turns of: read a depth, scale its reciprocal, store that.
+ * A turn is as long as the arithmetic loop's. The stride through the words is
+ * the next odd number after each 512 turns, so that the kinds of operand come
+ * in another order each time. The large ones are of all sizes; none
+ * is negative, as no depth before the eye is. */
+static void recp(int small, int large)
+{
+    for (int k = 0; k < 512; k++) {
+        int is_small = between(1, small + large) <= small;
+        first_memory[k] = (uint32_t)(is_small ? between(1, 512) : between(513, INT32_MAX >> between(0, 21)));
+    }
+    start.registers[2] = 511;
+    start.registers[3] = 0xc000;
+    start.registers[7] = 1;
+    rri(LD, 4, 1, 0);
+    rrr(RECP, 5, 4, 0);
+    rrr(MULF, 5, 5, 3);
+    rri(ST, 5, 1, 512);
+    rrr(ADD, 1, 1, 7);
+    rrr(AND, 1, 1, 2);
+    jump(JNE, 0);
+    rri(LI, 7, 7, 2);
     jump(JMP, 0);
 }
 
@@ -181,12 +210,23 @@ void prepare(const char *name)
     calls = 1;
     if (!strcmp(name, "arithmetic")) {
         arithmetic();
+    } else if (!strcmp(name, "recp-small")) {
+        recp(1, 0);
+    } else if (!strcmp(name, "recp-large")) {
+        recp(0, 1);
+    } else if (!strcmp(name, "recp-mixed")) {
+        recp(1, 1);
     } else if (!strcmp(name, "dot")) {
         dot();
     } else if (!strcmp(name, "raster")) {
         raster();
     } else if (!strcmp(name, "moves")) {
         moves();
+    } else if (!strcmp(name, "run-1024")) {
+        /* Long enough for a run to copy the table of reciprocals, and so short that the copy shows. */
+        arithmetic();
+        budget = 1024;
+        calls = 1000;
     } else if (!strcmp(name, "single") || !strcmp(name, "step")) {
         arithmetic();
         budget = 1;
