@@ -82,6 +82,23 @@ pub enum Slip {
     HaltingStep,
     /// A single step is two.
     TwoSteps,
+    /// In a run of `LONG_RUN` steps or more, as all slips of the table: RECP of
+    /// 347 is one too large.
+    TableEntry,
+    /// RECP of 1 to 511 is the table's next entry.
+    TableShifted,
+    /// RECP of 512 is past the table's end, and 0.
+    Table512,
+    /// RECP of 513 is the table's last entry.
+    Table513,
+    /// RECP of 0 is a place of the table that holds 0.
+    TableZero,
+    /// RECP looks the low ten bits up, whatever stands above them.
+    TableLowBits,
+    /// RECP of -1 to -512 is looked up by its size, and keeps no sign.
+    TableSign,
+    /// RECP leaves the flags where it looks up.
+    TableFlags,
 }
 
 impl Slip {
@@ -122,7 +139,7 @@ pub enum Part {
     Machine,
 }
 
-pub const SLIPS: [(&str, Slip); 34] = [
+pub const SLIPS: [(&str, Slip); 42] = [
     ("upper-left", Slip::UpperLeft),
     ("upper-left-x", Slip::UpperLeftX),
     ("upper-left-y", Slip::UpperLeftY),
@@ -157,6 +174,14 @@ pub const SLIPS: [(&str, Slip); 34] = [
     ("idle", Slip::Idle),
     ("halting-step", Slip::HaltingStep),
     ("two-steps", Slip::TwoSteps),
+    ("table-entry", Slip::TableEntry),
+    ("table-shifted", Slip::TableShifted),
+    ("table-512", Slip::Table512),
+    ("table-513", Slip::Table513),
+    ("table-zero", Slip::TableZero),
+    ("table-low-bits", Slip::TableLowBits),
+    ("table-sign", Slip::TableSign),
+    ("table-flags", Slip::TableFlags),
 ];
 
 #[derive(Clone, Copy, Debug, PartialEq, Eq)]

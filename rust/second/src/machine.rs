@@ -258,6 +258,7 @@ pub fn recp(operand: u32) -> u32 {
     if operand == 0 {
         return 2147483647;
     }
+    // 02, M-102: "Nothing that RECP promises changes." The rule stays.
     // Whole-number division of Rust rounds toward zero.
     keep_32_bits(2147483647 / signed(operand))
 }

@@ -2,11 +2,14 @@
 //! and the slip is put into the steps it concerns.
 
 use super::case::{plain_state, second_state};
+use super::reciprocals::LONG_RUN;
 use crate::subject::{Part, Slip};
 use kit::words::fields;
 use merikohin::raw::{Ran, Stepped};
 use merikohin::State;
-use second::machine::{self, leaf_value, ASRI, CALL, DOT, LD, MULF, READ, SCRSET, ST, TREEIN, TREEVAL, WRITE};
+use second::machine::{
+    self, leaf_value, recp, ASRI, CALL, DOT, LD, MULF, READ, RECP, SCRSET, ST, TREEIN, TREEVAL, WRITE,
+};
 
 pub fn run(slip: Slip, program: &[u32], data: &mut [u32], ram: &mut [u8], lent: State, allowed: u64) -> Ran {
     let given = second_state(&lent);
@@ -88,6 +91,10 @@ pub fn run(slip: Slip, program: &[u32], data: &mut [u32], ram: &mut [u8], lent: 
             Slip::TransferFlags if opcode == READ || opcode == WRITE => {
                 state.zero = false;
             }
+            Slip::TableFlags if opcode == RECP && allowed >= LONG_RUN && (1..=512).contains(&v2) => {
+                (state.negative, state.zero) = (before.negative, before.zero);
+            }
+            _ if opcode == RECP && allowed >= LONG_RUN => result(&mut state, r1, looked_up(slip, v2)),
             _ => {}
         }
     }
@@ -99,6 +106,22 @@ pub fn step(slip: Slip, program: &[u32], data: &mut [u32], ram: &mut [u8], lent:
     let ran = run(slip, program, data, ram, lent, if slip == Slip::TwoSteps { 2 } else { 1 });
     let halting = slip == Slip::HaltingStep && ran.state.halt != lent.halt;
     Stepped { number: ran.number, carried_out: u32::from(ran.steps > 0 || halting), state: ran.state }
+}
+
+/// RECP by a table, with one slip.
+fn looked_up(slip: Slip, operand: u32) -> u32 {
+    let in_table = |operand: u32| (1..=512).contains(&operand);
+    let (low, size) = (operand % 1024, operand.wrapping_neg());
+    match slip {
+        Slip::TableEntry if operand == 347 => recp(347) + 1,
+        Slip::TableShifted if (1..=511).contains(&operand) => recp(operand + 1),
+        Slip::Table512 if operand == 512 => 0,
+        Slip::Table513 if operand == 513 => recp(512),
+        Slip::TableZero if operand == 0 => 0,
+        Slip::TableLowBits if in_table(low) => recp(low),
+        Slip::TableSign if in_table(size) => recp(size),
+        _ => recp(operand),
+    }
 }
 
 fn result(state: &mut machine::State, register: usize, value: u32) {

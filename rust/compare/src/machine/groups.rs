@@ -2,7 +2,7 @@
 
 use super::case::{mixed_word, second_state, with_regs, with_screen, with_tree, Case, DataFill, EXTREMES, FRESH};
 use super::parts::{any_word, instruction, leaf_values, mark, register, screen_in, state_in, tree_on, yes};
-use super::{long, samples, states};
+use super::{long, reciprocals, samples, states};
 use crate::case::Fill;
 use crate::groups::{area, size, tight};
 use crate::run::Run;
@@ -14,6 +14,8 @@ use second::machine::*;
 
 pub fn all(run: &mut Run) {
     run.group("01's table of words", table);
+    // Every wrong table is caught here, so that the self-check goes no further.
+    run.group("RECP, each operand", reciprocals::each);
     run.group("the fresh state", fresh_state);
     run.group("640 by 480 by SCRSET", full_size);
     run.group("places and program lengths", places);
@@ -31,6 +33,10 @@ pub fn all(run: &mut Run) {
     run.group("several refusals at once", states::several);
     run.group("each opcode", each_opcode);
     run.group("operands at the edges", operands);
+    run.group("RECP, steps allowed", reciprocals::budgets);
+    run.group("RECP, registers and flags", reciprocals::registers);
+    run.group("RECP, counted and stored", reciprocals::counted);
+    run.group("RECP, all of data memory", reciprocals::replaced);
     run.group("shifts", shifts);
     run.group("R0, and one register twice", same_registers);
     run.group("flags and jumps", jumps);
@@ -45,6 +51,7 @@ pub fn all(run: &mut Run) {
     run.group("matrix times matrix", samples::matrix_times_matrix);
     run.group("rasterization loop", samples::rasterization);
     run.group("short random programs", short_programs);
+    run.group("random programs with many RECPs", reciprocals::programs);
     run.group("long random programs", long::programs);
 }
 
@@ -1153,10 +1160,6 @@ fn splits(run: &mut Run, rng: &mut Rng) {
             1 => rng.between(700, 4000) as u64,
             _ => rng.between(0, 700) as u64,
         };
-        let one = Case { runs: vec![total], ..whole.clone() };
-        let Some(answers) = run.machine(&one) else { continue };
-        let (steps, state) = (answers[0].steps, second_state(&answers[0].state));
-        let (data, ram) = (run.machine_memories.subject_data().to_vec(), run.machine_memories.subject_ram().to_vec());
         let any = rng.next() % (total + 1);
         let m = rng.pick(&[0, 1, total / 2, total, total.saturating_sub(1), any, any, any]).min(total);
         let mut parts = vec![m, total - m];
@@ -1165,14 +1168,23 @@ fn splits(run: &mut Run, rng: &mut Rng) {
             parts = vec![total / 7; 7];
             parts.push(total - total / 7 * 7);
         }
-        let split = Case { runs: parts, ..whole };
-        let Some(answers) = run.machine(&split) else { continue };
-        let sum: u64 = answers.iter().map(|ran| ran.steps).sum();
-        let last = second_state(&answers[answers.len() - 1].state);
-        let memories = &run.machine_memories;
-        let holds = sum == steps && last == state && memories.subject_data() == data && memories.subject_ram() == ram;
-        run.holds(holds, || format!("{split}: ends otherwise than one run of {total} steps"));
+        in_parts(run, &whole, total, parts);
     }
+}
+
+/// So many steps of a program in one run, and in parts.
+pub fn in_parts(run: &mut Run, whole: &Case, total: u64, parts: Vec<u64>) {
+    let one = Case { runs: vec![total], ..whole.clone() };
+    let Some(answers) = run.machine(&one) else { return };
+    let (steps, state) = (answers[0].steps, second_state(&answers[0].state));
+    let (data, ram) = (run.machine_memories.subject_data().to_vec(), run.machine_memories.subject_ram().to_vec());
+    let split = Case { runs: parts, ..one };
+    let Some(answers) = run.machine(&split) else { return };
+    let sum: u64 = answers.iter().map(|ran| ran.steps).sum();
+    let last = second_state(&answers[answers.len() - 1].state);
+    let memories = &run.machine_memories;
+    let holds = sum == steps && last == state && memories.subject_data() == data && memories.subject_ram() == ram;
+    run.holds(holds, || format!("{split}: ends otherwise than one run of {total} steps"));
 }
 
 /// A run is single steps in turn: as many as it allows, and where it halts some

@@ -1,11 +1,12 @@
 //! Long random programs. They are made of blocks that mostly do not halt:
 //! arithmetic on a dozen registers, loads and stores, DOT, READ and WRITE,
 //! screens, trees, skips, loops and routines; addresses are kept in range by
-//! AND with a mask. An outer loop repeats all of it, and what comes after it
-//! halts, or is endless.
+//! AND with a mask. Some have many RECPs, mostly of small operands. An outer loop
+//! repeats all of it, and what comes after it halts, or is endless.
 
 use super::case::{mixed_word, second_state, Case, FRESH};
 use super::parts::{any_word, screen_in, tree_on};
+use super::reciprocals::LONG_RUN;
 use crate::groups::{area, size};
 use crate::random::sound_screen;
 use crate::run::Run;
@@ -54,6 +55,8 @@ struct Maker<'a> {
     steps: u64,
     /// How often one of the words is anything at all; 0 for never.
     danger: u64,
+    /// Whether about every other plain block is a RECP.
+    reciprocals: bool,
 }
 
 impl Maker<'_> {
@@ -101,6 +104,27 @@ impl Maker<'_> {
             }
             _ => self.rrr(opcode, r1, r2, r3),
         }
+    }
+
+    /// RECP of an operand on either side of 0 and of 512, or of any.
+    fn reciprocal(&mut self) {
+        let (r1, from) = (self.target(), self.source());
+        match self.rng.next() % 8 {
+            // 0 to 1,023, and -512 to 511.
+            0 | 1 => self.rri(LSRI, FIRST, from, 22),
+            2 => self.rrr(AND, FIRST, from, WORD_MASK),
+            3 | 4 => self.rri(ASRI, FIRST, from, 22),
+            5 => {
+                let operand = self.rng.between(-1100, 1100);
+                self.rri(LI, FIRST, 0, operand);
+            }
+            6 => {
+                let operand = self.rng.pick(&[0, 1, 2, 511, 512, 513, -1, -511, -512, -513]);
+                self.rri(LI, FIRST, 0, operand);
+            }
+            _ => return self.rrr(RECP, r1, from, 0),
+        }
+        self.rrr(RECP, r1, FIRST, 0);
     }
 
     /// LD and ST, by R0 and imm or by a masked register.
@@ -247,6 +271,9 @@ impl Maker<'_> {
             let word = any_word(self.rng);
             self.program.add(word);
         }
+        if self.reciprocals && self.rng.chance(2) {
+            return self.reciprocal();
+        }
         match self.rng.next() % 16 {
             0..=6 => self.arithmetic(),
             7..=9 => self.memory(),
@@ -318,8 +345,18 @@ impl Maker<'_> {
     }
 }
 
-/// One program with its first state and memories.
+/// One program with its first state and memories; one in four has many RECPs.
 pub fn program(rng: &mut Rng) -> Long {
+    let reciprocals = rng.chance(4);
+    made(rng, reciprocals)
+}
+
+/// One that has many RECPs.
+pub fn with_reciprocals(rng: &mut Rng) -> Long {
+    made(rng, true)
+}
+
+fn made(rng: &mut Rng, reciprocals: bool) -> Long {
     // Two screens, the second at least as large as the first.
     let (groups, height) = (rng.pick(&[1u32, 1, 2, 4]), rng.pick(&[1u32, 2, 4, 4, 8]));
     let first = size(groups, height);
@@ -348,7 +385,8 @@ pub fn program(rng: &mut Rng) -> Long {
     let target = rng.between(1_100, 2_400) as u64;
     let words_at_most = rng.pick(&[60usize, 120, 120, 250, 900]);
     let fresh = rng.chance(2);
-    let mut maker = Maker { rng, program: Program::default(), screens, routines: Vec::new(), steps: 0, danger };
+    let mut maker =
+        Maker { rng, program: Program::default(), screens, routines: Vec::new(), steps: 0, danger, reciprocals };
     let mut state = FRESH;
     if fresh {
         // The constants by LI, the free registers by LD and by what they meet.
@@ -402,7 +440,7 @@ pub fn program(rng: &mut Rng) -> Long {
     let mut runs = Vec::new();
     let mut left = total;
     for _ in 1..rng.pick(&[1, 1, 2, 4]) {
-        let part = rng.pick(&[0, 1, 100, left / 2]).min(left);
+        let part = rng.pick(&[0, 1, 100, LONG_RUN - 1, LONG_RUN, left / 2]).min(left);
         runs.push(part);
         left -= part;
     }
@@ -412,20 +450,51 @@ pub fn program(rng: &mut Rng) -> Long {
     Long { case }
 }
 
-/// How often each opcode was carried out, step by step on the second program.
-fn profile(case: &Case, by_opcode: &mut [u64; 41]) {
-    let (mut data, mut ram) = (Vec::new(), Vec::new());
-    case.data_at_first(&mut data);
-    case.ram_at_first(&mut ram);
-    let mut state = second_state(&case.state);
-    for _ in 0..case.runs.iter().sum::<u64>() {
-        let Some(&word) = case.program.get(state.place as usize) else { return };
-        let ran = second::machine::run(&case.program, &mut data, &mut ram, &state, 1);
-        if ran.steps == 0 {
-            return;
+/// What was carried out, step by step on the second program.
+pub struct Profile {
+    by_opcode: [u64; 41],
+    /// RECP of each operand of 02's table, in a long run.
+    by_operand: [u64; 512],
+}
+
+impl Profile {
+    pub fn none() -> Profile {
+        Profile { by_opcode: [0; 41], by_operand: [0; 512] }
+    }
+
+    pub fn add(&mut self, case: &Case) {
+        let (mut data, mut ram) = (Vec::new(), Vec::new());
+        case.data_at_first(&mut data);
+        case.ram_at_first(&mut ram);
+        let mut state = second_state(&case.state);
+        for &allowed in &case.runs {
+            for _ in 0..allowed {
+                let Some(&word) = case.program.get(state.place as usize) else { return };
+                let (opcode, _, r2, ..) = fields(word);
+                let operand = state.registers[r2];
+                let ran = second::machine::run(&case.program, &mut data, &mut ram, &state, 1);
+                if ran.steps == 0 {
+                    return;
+                }
+                self.by_opcode[opcode as usize] += 1;
+                if opcode == RECP && allowed >= LONG_RUN && (1..=512).contains(&operand) {
+                    self.by_operand[operand as usize - 1] += 1;
+                }
+                state = ran.state;
+            }
         }
-        by_opcode[fields(word).0 as usize] += 1;
-        state = ran.state;
+    }
+
+    fn share(&self, opcodes: &[u32]) -> String {
+        let all = self.by_opcode.iter().sum::<u64>().max(1);
+        let of = opcodes.iter().map(|&opcode| self.by_opcode[opcode as usize]).sum::<u64>();
+        format!("{}.{}%", of * 100 / all, of * 1000 / all % 10)
+    }
+
+    pub fn reciprocals(&self) -> String {
+        let met = self.by_operand.iter().filter(|&&times| times > 0).count();
+        let times = self.by_operand.iter().sum::<u64>();
+        format!("{} RECP; in long runs {times} times of 1 to 512, of {met} of them", self.share(&[RECP]))
     }
 }
 
@@ -436,12 +505,12 @@ pub fn programs(run: &mut Run, rng: &mut Rng) {
     let least = Duration::from_secs(60 * run.minutes);
     let (mut long, mut short, mut steps) = (0u64, 0u64, 0u64);
     let mut by_halt = [0u64; 18];
-    let mut by_opcode = [0u64; 41];
+    let mut profile = Profile::none();
     while long < run.programs || start.elapsed() < least {
         let Long { case } = program(rng);
         debug_assert!(case.program.len() <= 1024 && screen_in(rng, case.ram).is_some());
         if long < 200 && !run.quiet {
-            profile(&case, &mut by_opcode);
+            profile.add(&case);
         }
         let Some(answers) = run.machine(&case) else {
             // A mismatch counts as well, or a wrong subject would never end.
@@ -457,20 +526,18 @@ pub fn programs(run: &mut Run, rng: &mut Rng) {
         steps += done;
         by_halt[(answers[answers.len() - 1].state.halt as usize).min(17)] += 1;
     }
-    let of = |opcodes: &[u32]| opcodes.iter().map(|&opcode| by_opcode[opcode as usize]).sum::<u64>();
-    let all = by_opcode.iter().sum::<u64>().max(1);
-    let share = |opcodes: &[u32]| format!("{}.{}%", of(opcodes) * 100 / all, of(opcodes) * 1000 / all % 10);
-    let tree = share(&[TREESET, TREEIN, TREEVAL, TREEPUT]);
-    let jumps = share(&(JMP..=JGEL).collect::<Vec<u32>>());
+    let tree = profile.share(&[TREESET, TREEIN, TREEVAL, TREEPUT]);
+    let jumps = profile.share(&(JMP..=JGEL).collect::<Vec<u32>>());
     let halts: Vec<String> = (11..18).map(|halt| format!("{} with {halt}", by_halt[halt])).collect();
     run.note(format!(
         "{long} of {LONG} steps or more, {steps} steps; {} ended with their steps, the others halted: {}; {short} shorter ones besides. \
-         Steps of the first 200: {tree} in a tree, {jumps} jumps, {} LD or ST, {} READ or WRITE, {} DOT; the rarest opcode {} times",
+         Steps of the first 200: {tree} in a tree, {jumps} jumps, {} LD or ST, {} READ or WRITE, {} DOT, {}; the rarest opcode {} times",
         by_halt[0],
         halts.join(", "),
-        share(&[LD, ST]),
-        share(&[READ, WRITE]),
-        share(&[DOT]),
-        by_opcode.iter().min().copied().unwrap_or(0)
+        profile.share(&[LD, ST]),
+        profile.share(&[READ, WRITE]),
+        profile.share(&[DOT]),
+        profile.reciprocals(),
+        profile.by_opcode.iter().min().copied().unwrap_or(0)
     ));
 }

@@ -7,6 +7,7 @@ pub mod check;
 pub mod groups;
 mod long;
 mod parts;
+mod reciprocals;
 mod samples;
 mod shrink;
 mod states;

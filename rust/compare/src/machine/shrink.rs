@@ -12,11 +12,21 @@ use std::time::{Duration, Instant};
 
 const TRIES: usize = 20_000;
 const TIME: Duration = Duration::from_secs(4);
+/// A run that allows more steps than these may take too long.
+const STEPS: u64 = 10_000_000;
 
 /// The smallest mismatching case found from this one.
 pub fn shrink(subject: Subject, case: &Case, memories: &mut Memories) -> Case {
     let start = Instant::now();
     let mut best = one_step(subject, case, memories).unwrap_or(case.clone());
+    // A smaller program may be endless, so its steps are made fewer first.
+    if best.runs.iter().any(|&steps| steps > STEPS) {
+        let fewer = Case { runs: best.runs.iter().map(|&steps| steps.min(STEPS)).collect(), ..best.clone() };
+        if check(subject, &fewer, memories).difference.is_none() {
+            return best;
+        }
+        best = fewer;
+    }
     let mut tries = 0;
     'again: loop {
         let best_cost = cost(&best);
@@ -40,7 +50,7 @@ pub fn shrink(subject: Subject, case: &Case, memories: &mut Memories) -> Case {
 /// The case as far as just before its first wrong step, as the second program
 /// has it, and then that step alone; if this alone mismatches too.
 fn one_step(subject: Subject, case: &Case, memories: &mut Memories) -> Option<Case> {
-    if case.ram > 100_000 || case.runs.iter().any(|&steps| steps > 10_000_000) {
+    if case.ram > 100_000 || case.runs.iter().any(|&steps| steps > STEPS) {
         return None;
     }
     let wrong = check(subject, case, memories).difference?.run;
@@ -208,7 +218,8 @@ fn candidates(case: &Case) -> Vec<Case> {
     push(State { registers: [0; 32], ..s });
     push(State { has_tree: 0, tree: NO_TREE, ..s });
     push(State { has_screen: 0, screen: NO_SCREEN, has_tree: 0, tree: NO_TREE, ..s });
-    let bytes = s.screen.size_number / 512 * (s.screen.size_number % 512) * 32;
+    // A size number that means nothing may be any.
+    let bytes = (s.screen.size_number / 512).wrapping_mul(s.screen.size_number % 512 * 32);
     push(State { screen: Screen { colour_start: 0, depth_start: bytes, ..s.screen }, ..s });
     for (groups, height) in [(1, 1), (s.screen.size_number / 512, 1), (1, s.screen.size_number % 512)] {
         let size = groups * 512 + height;

@@ -3,6 +3,7 @@
 
 use super::case::{second_state, with_regs, with_screen, with_tree, Case, FRESH, NO_TREE};
 use super::parts::{any_word, place_on, screen_in, state_in, tree_on, yes};
+use super::reciprocals::LONG_RUN;
 use crate::case::Fill;
 use crate::groups::{area, size, tight};
 use crate::run::Run;
@@ -23,6 +24,10 @@ fn busy(length: usize) -> Vec<u32> {
     ];
     (0..length).map(|at| words[at % words.len()]).collect()
 }
+
+/// Steps allowed to a run that takes none: few, and so many that the engine copies
+/// 02's table (M-102).
+const TAKES_NONE: [u64; 5] = [0, 1, 50, LONG_RUN, 1_000_000];
 
 /// A refused run: the number, no step, the state as given (the rest is compared
 /// with the second program).
@@ -50,9 +55,10 @@ pub fn lengths(run: &mut Run, rng: &mut Rng) {
         for data in [0usize, 1, 2, 512, 1023, 1024, 1025, 1026, 2048, 65536 + 1024] {
             for ram in [0usize, 64, 256] {
                 let state = state_in(rng, ram);
-                let steps = rng.pick(&[0, 1, 50]);
+                let number = number(program, data, ram);
+                let steps = if number == 0 { rng.pick(&[0, 1, 50]) } else { rng.pick(&TAKES_NONE) };
                 let case = Case { data, ..Case::one(busy(program), ram, rng.next(), state, steps) };
-                match number(program, data, ram) {
+                match number {
                     0 => {
                         run.machine(&case);
                     }
@@ -65,8 +71,10 @@ pub fn lengths(run: &mut Run, rng: &mut Rng) {
         for (program, data) in [(6, 1024), (0, 1024), (1024, 1024), (1025, 1024), (6, 1023), (1025, 0)] {
             let state = state_in(rng, 256);
             let fill = if rng.chance(2) { Fill::Byte(rng.next() as u8) } else { Fill::Random(rng.next()) };
-            let case = Case { data, fill, ..Case::one(busy(program), ram, rng.next(), state, 20) };
-            match number(program, data, ram) {
+            let number = number(program, data, ram);
+            let steps = if number == 0 { 20 } else { rng.pick(&TAKES_NONE) };
+            let case = Case { data, fill, singly: 20, ..Case::one(busy(program), ram, rng.next(), state, steps) };
+            match number {
                 0 => {
                     run.machine(&case);
                 }
@@ -225,7 +233,8 @@ fn given(rng: &mut Rng) -> Vec<Given> {
     found
 }
 
-/// Every state of the list, with budgets of 0, 1 and more; also halted.
+/// Every state of the list, with budgets of 0, 1 and more; also halted. Those
+/// that take no step have long runs too.
 pub fn states(run: &mut Run, rng: &mut Rng) {
     let (mut taken, mut turned_away) = (0, 0);
     for Given { state, ram, well } in given(rng) {
@@ -239,11 +248,17 @@ pub fn states(run: &mut Run, rng: &mut Rng) {
             // "A halted state runs 0 steps and stays", if it is well-formed.
             variants.push(State { halt: rng.between(11, 17) as u32, ..state });
         }
-        let budgets: &[u64] = if ram > 1_000_000 { &[3] } else { &[0, 1, 8] };
         for state in variants {
+            let budgets: &[u64] = if ram > 1_000_000 {
+                &[3]
+            } else if !well || state.halt != 0 {
+                &TAKES_NONE
+            } else {
+                &[0, 1, 8]
+            };
             for &steps in budgets {
                 let program = if rng.chance(4) { vec![any_word(rng)] } else { busy(6) };
-                let case = Case::one(program, ram, rng.next(), state, steps);
+                let case = Case { singly: 8, ..Case::one(program, ram, rng.next(), state, steps) };
                 if !well {
                     refused(run, &case, 4);
                 } else if state.halt != 0 {
@@ -303,7 +318,8 @@ pub fn several(run: &mut Run, rng: &mut Rng) {
             let data = if has(2) { rng.pick(&[0, 1, 1023, 1025, 2048]) } else { DATA_WORDS };
             let ram = if has(3) { rng.pick(&[4_194_305, 4_200_000]) } else { 256 };
             let state = if has(4) { bad_states[turn] } else { state_in(rng, 256) };
-            let mut case = Case { data, ..Case::one(busy(program), ram, rng.next(), state, rng.pick(&[0, 1, 40])) };
+            let steps = if lowest == 0 { rng.pick(&[0, 1, 40]) } else { rng.pick(&TAKES_NONE) };
+            let mut case = Case { data, ..Case::one(busy(program), ram, rng.next(), state, steps) };
             if has(3) && turn > 0 {
                 case.fill = Fill::Byte(rng.next() as u8);
             }
