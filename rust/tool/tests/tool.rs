@@ -377,7 +377,7 @@ fn help() {
         let words: Vec<String> = example
             .split(' ')
             .map(|word| {
-                if word.starts_with("raster.") || word.starts_with("pair.") {
+                if word.starts_with("raster.") || word.starts_with("shaded.") {
                     file(&format!("help-{word}"))
                 } else {
                     word.into()
