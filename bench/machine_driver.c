@@ -88,8 +88,8 @@ static void arithmetic(void)
 /* Over and over, 512 turns of: read a depth, scale its reciprocal, store that.
  * A turn is as long as the arithmetic loop's. The stride through the words is
  * the next odd number after each 512 turns, so that the kinds of operand come
- * in another order each time. The large ones are of all sizes; none
- * is negative, as no depth before the eye is. */
+ * in another order each time. The large ones are of all sizes; none is
+ * negative, as no depth before the eye is. */
 static void recp(int small, int large)
 {
     for (int k = 0; k < 512; k++) {

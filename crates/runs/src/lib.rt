@@ -11,7 +11,7 @@ ghost use Rattle.alu.specs.Reciprocals.{Reciprocals};
 ghost use Rattle.pieces.specs.Pieces.{machine};
 ghost use Rattle.runs.specs.Runs.{Ends, Ready};
 
-// A run that is allowed so many steps copies the table: where it takes them all, that is one in a hundred of its instructions or fewer.
+// A run that is allowed so many steps copies the table: where it takes them all, that is about one in a hundred of its instructions.
 const LONG: u64 = 1024;
 
 // What a run leaves of the pieces by value, and the steps carried out.

@@ -1,5 +1,5 @@
--- The tests are the definition's. Where the rules do not have the halt number, no other counts; where there is no screen, what is left of them is
--- whether there is a tree.
+-- The tests are the definition's. Where the rules do not have the halt number, no other counts; where there is no screen, what is left
+-- of them is whether there is a tree.
 use Prim.Native.Nat.{ℕ}
 use mathlib.Core.Path.{_≡_, refl, _∙_, ap, ap₂}
 use mathlib.Core.Bool.{Bool, true, false, _&&_, _||_, not, false≢true, true≢false}
