@@ -1,3 +1,2 @@
 pub mod Entries
 pub mod Readings
-pub mod Shift

@@ -2,7 +2,10 @@
 use crate::signed::signed;
 use words::low32;
 ghost use mathlib.Core.Path.{_≡_};
-ghost use Rattle.instructions.specs.Arithmetic.{difference, roundedProduct, reciprocal, shiftAmount, shiftedLeft, shiftedRight, shiftedSigned, negativeFlag, zeroFlag};
+ghost use Rattle.instructions.specs.Arithmetic.{difference, roundedProduct, reciprocal, negativeFlag, zeroFlag};
+ghost use Rattle.instructions.specs.Arithmetic.{shiftedLeft, shiftedRight, shiftedSigned};
+ghost use lib.Dec.{ltb};
+ghost use Rattle.rules.specs.Folds.{choose};
 
 // No difference falls below zero: 2^32 is added first.
 pub fn difference(a: u32, b: u32) -> u32
@@ -28,29 +31,34 @@ pub fn reciprocal(a: u32) -> u32
     low32(2147483647 / signed(a))
 }
 
-// How far a shift goes is said here alone: the shifts are right for any amount below 64.
-fn shift_amount(b: u32) -> u32
-    ensures { λ r. ⌜ r ≡ shiftAmount b ⌝ }
+// A word can be shifted by 31 at most, so the shifts go by k % 32. Below 32 that is k; from there on `otherwise` is the answer.
+fn unless_long(k: u32, shifted: u32, otherwise: u32) -> u32
+    ensures { λ r. ⌜ r ≡ choose (ltb k 32) shifted otherwise ⌝ }
 {
-    b % 32
+    if k < 32 {
+        return shifted;
+    }
+    otherwise
 }
 
-pub fn shifted_left(a: u32, b: u32) -> u32
-    ensures { λ r. ⌜ r ≡ shiftedLeft a b ⌝ }
+pub fn shifted_left(a: u32, k: u32) -> u32
+    ensures { λ r. ⌜ r ≡ shiftedLeft a k ⌝ }
 {
-    (((a as u64) << shift_amount(b)) % 4294967296) as u32
+    unless_long(k, a << (k % 32), 0)
 }
 
-pub fn shifted_right(a: u32, b: u32) -> u32
-    ensures { λ r. ⌜ r ≡ shiftedRight a b ⌝ }
+pub fn shifted_right(a: u32, k: u32) -> u32
+    ensures { λ r. ⌜ r ≡ shiftedRight a k ⌝ }
 {
-    ((a as u64) >> shift_amount(b)) as u32
+    unless_long(k, a >> (k % 32), 0)
 }
 
-pub fn shifted_signed(a: u32, b: u32) -> u32
-    ensures { λ r. ⌜ r ≡ shiftedSigned a b ⌝ }
+// By 32 nothing is left but the sign.
+pub fn shifted_signed(a: u32, k: u32) -> u32
+    ensures { λ r. ⌜ r ≡ shiftedSigned a k ⌝ }
 {
-    low32(signed(a) >> shift_amount(b))
+    let wide = signed(a);
+    unless_long(k, low32(wide >> (k % 32)), low32(wide >> 32))
 }
 
 pub fn negative_flag(v: u32) -> bool

@@ -9,7 +9,7 @@ use borrow.Author.Tests.{leb-true, lt-leb, eqb-true, ne-eqb}
 use Rattle.rules.proofs.Pixels.{and-l, and-r}
 use Rattle.instructions.specs.Opcodes.{ST, ASRI, JMP, CALL, JGEL, DOT, READ, WRITE, SCRSET, CLS, TREESET, TREEIN, TREEVAL, TREEPUT}
 use Rattle.instructions.specs.Words.{opcode}
-use Rattle.instructions.specs.Arithmetic.{setsFlags}
+use Rattle.instructions.specs.Arithmetic.{result, setsFlags, negativeFlag, zeroFlag}
 use Rattle.instructions.specs.Jumps.{isJump}
 use Rattle.instructions.specs.Step.{Machine, withRegisters, withPlace, withFlags, withScreen, withTree}
 use Rattle.instructions.specs.Step.{afterResult, afterST, afterCALL, afterREAD, afterWRITE, afterSCRSET, afterCLS}
@@ -52,6 +52,13 @@ module _ (m : Machine) (w : ℕ) where
   pub effect-result : setsFlags (opcode w) ≡ true → effect m w ≡ afterResult m w
   unfolding effect
   effect-result e = rw e
+
+  -- "Two flags, negative and zero, follow the 32-bit result"
+  pub flags-follow : setsFlags (opcode w) ≡ true
+      → (performed m w .state .negative ≡ negativeFlag (result (m .memory) (m .state .regs) w))
+      × (performed m w .state .zero ≡ zeroFlag (result (m .memory) (m .state .regs) w))
+  unfolding performed withPlace afterResult withFlags
+  flags-follow e = rw (effect-result e) (refl, refl)
 
   pub effect-ST : opcode w ≡ ST → effect m w ≡ afterST m w
   unfolding effect

@@ -13,4 +13,6 @@ pub mod Trees
 pub mod Unique
 pub mod Stepping
 pub mod Meaning
+pub mod Shifts
+pub mod LongShifts
 pub mod Moves

@@ -1,6 +1,6 @@
 -- What the signed operations mean, said by products and order alone, since `toZ`, `shrZ` and `quotZ` are the prover's own: a word from
--- 2^31 on is read as itself less 2^32, MULF and ASR round down, and RECP rounds toward zero.
-use Prim.Native.Nat.{ℕ, zero, suc, _+_, _-_, _*_, _/_, _^_, _≤_, _<_}
+-- 2^31 on is read as itself less 2^32, MULF rounds down, and RECP rounds toward zero. The shifts are in Shifts.antt.
+use Prim.Native.Nat.{ℕ, zero, suc, _+_, _-_, _*_, _/_, _≤_, _<_}
 use mathlib.Core.Path.{_≡_, refl, sym, ap}
 use mathlib.Core.Logic.{_≢_}
 use mathlib.Core.Bool.{Bool, true, false}
@@ -14,19 +14,11 @@ use Rattle.ints.specs.Modulo.{mod32}
 use Rattle.ints.specs.Rounding.{RoundsDown}
 use Rattle.ints.proofs.Rounding.{shrZ-rounds-down}
 use Rattle.instructions.specs.Words.{signed}
-use Rattle.instructions.specs.Arithmetic.{roundedProduct, reciprocal, shiftAmount, shiftedSigned}
+use Rattle.instructions.specs.Arithmetic.{roundedProduct, reciprocal}
 
 pub mulf-rounds-down : (a b : ℕ) → (q : ℤ) × (roundedProduct a b ≡ mod32 q) × RoundsDown (signed a *ℤ signed b) (pos 65536) q
 unfolding roundedProduct
 mulf-rounds-down a b = (shrZ (signed a *ℤ signed b) 65536, refl, shrZ-rounds-down (signed a *ℤ signed b) 65536 (omega arith))
-
-pub asr-rounds-down : (a b : ℕ) → (q : ℤ) × (shiftedSigned a b ≡ mod32 q) × RoundsDown (signed a) (pos (2 ^ shiftAmount b)) q
-unfolding shiftedSigned
-asr-rounds-down a b = (shrZ (signed a) (2 ^ shiftAmount b), refl, shrZ-rounds-down (signed a) (2 ^ shiftAmount b) (power (shiftAmount b)))
-  where
-    power : (k : ℕ) → 0 < 2 ^ k
-    power zero = omega arith
-    power (suc k) = omega (arith, power k)
 
 -- q is n divided by d, rounded toward zero: its size is that of the sizes' quotient, and it has d's sign
 pub record TowardZero (n : ℕ) (d q : ℤ) : Type 0 where

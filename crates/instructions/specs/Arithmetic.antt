@@ -41,19 +41,18 @@ immediate address = signExtended (lowHalf address)
 abbrev pub complement : ℕ → ℕ
 complement a = 4294967295 - a
 
--- "Shift amounts are the low five bits of r3 or imm (house)."
-unfoldable pub shiftAmount : ℕ → ℕ
-shiftAmount b = b % 32
-
+-- 02, M-103: "All six shifts now take the whole amount, the register read as unsigned or the 16-bit imm." (`operand`, below.) There is no
+-- case at 32: "From 32 on, LSL and LSR give 0, and ASR gives 0 or -1 by the sign" follows (proofs/Shifts.antt, `lsl-from-32`, `lsr-from-32`
+-- and `asr-from-32`), and so does "Below 32 nothing changes" (`below-32`).
 unfoldable pub shiftedLeft : ℕ → ℕ → ℕ
-shiftedLeft a b = keep32 (a * 2 ^ shiftAmount b)
+shiftedLeft a k = keep32 (a * 2 ^ k)
 
 unfoldable pub shiftedRight : ℕ → ℕ → ℕ
-shiftedRight a b = a / 2 ^ shiftAmount b
+shiftedRight a k = a / 2 ^ k
 
 -- "ASR keeps the sign."
 unfoldable pub shiftedSigned : ℕ → ℕ → ℕ
-shiftedSigned a b = mod32 (shrZ (signed a) (2 ^ shiftAmount b))
+shiftedSigned a k = mod32 (shrZ (signed a) (2 ^ k))
 
 -- "DOT reads four words from each of the data addresses in r2 and r3, rounds each product as MULF does, then adds."
 abbrev pub dotTerm : List ℕ → ℕ → ℕ → ℕ → ℕ

@@ -6,7 +6,7 @@ use Rattle.rules.specs.Folds.{howMany, pixels}
 use Rattle.rules.specs.Triangles.{sample, edgeValue, keepsZero, inside, insideAll, covered}
 use Rattle.instructions.specs.Opcodes.{isRetired, noInstruction}
 use Rattle.instructions.specs.Words.{withRegister, signExtended, address}
-use Rattle.instructions.specs.Arithmetic.{roundedProduct, reciprocal, immediate, shiftAmount, shiftedSigned, dot, value, result}
+use Rattle.instructions.specs.Arithmetic.{roundedProduct, reciprocal, immediate, shiftedSigned, dot, value, result}
 use Rattle.instructions.specs.Jumps.{nextPlace}
 use Rattle.instructions.specs.Halts.{outsideData, moveOutsideData, moveOutsideRam, noScreen, noTree, wordHalt, haltNumber}
 use Rattle.instructions.specs.Step.{withRegisters, withPlace, withFlags, afterResult, effect, performed, step}
@@ -16,5 +16,5 @@ use Rattle.starred.specs.Table.{starred}
 pub starred-hold : map (λ c. c .gives) starred ≡ map (λ c. c .says) starred
 unfolding starred pixels howMany covered insideAll inside keepsZero edgeValue sample freshState step performed effect afterResult
     withFlags withPlace withRegisters haltNumber wordHalt isRetired noInstruction outsideData moveOutsideData moveOutsideRam noScreen noTree
-    nextPlace result value dot roundedProduct reciprocal immediate shiftedSigned shiftAmount address signExtended withRegister mod32
+    nextPlace result value dot roundedProduct reciprocal immediate shiftedSigned address signExtended withRegister mod32
 starred-hold = refl

@@ -11,7 +11,7 @@ use Rattle.rules.specs.Numbers.{verticesInRange, edgeTooLarge, triangleTooLarge
 use Rattle.rules.specs.Calls.{cleared, partStart, rowLength}
 use Rattle.instructions.specs.Opcodes.{isRetired, noInstruction}
 use Rattle.instructions.specs.Words.{withRegister, signExtended, address}
-use Rattle.instructions.specs.Arithmetic.{roundedProduct, reciprocal, immediate, shiftAmount, shiftedLeft, shiftedRight, shiftedSigned}
+use Rattle.instructions.specs.Arithmetic.{roundedProduct, reciprocal, immediate, shiftedLeft, shiftedRight, shiftedSigned}
 use Rattle.instructions.specs.Arithmetic.{dot, value, result}
 use Rattle.instructions.specs.Jumps.{goes, nextPlace}
 use Rattle.ram.specs.Ram.{loadWord, storeWord}
@@ -32,7 +32,7 @@ pub worked-hold :
 unfolding workedDrawings workedRuns mod32 upto howMany pixels sound soundAreas colourAt depthAt loadHalf storeHalf putPixel planeAt topHalf
     packed triangleDepth triangleColour sample edgeValue keepsZero inside insideAll covered written pixelDrawn rowDrawn drawn
     verticesInRange edgeTooLarge triangleTooLarge rowNumber triangleNumber cleared partStart rowLength withRegister signExtended address
-    roundedProduct reciprocal immediate shiftAmount shiftedLeft shiftedRight shiftedSigned dot value result goes nextPlace loadWord
+    roundedProduct reciprocal immediate shiftedLeft shiftedRight shiftedSigned dot value result goes nextPlace loadWord
     storeWord
     wordRead wordsRead wordWritten wordsWritten each refusesPlace maskBit treeSet leafValue marked treeIn deepened treeDepth replaced
     treeColour treeVal leafPut treePut outsideData moveOutsideData moveOutsideRam noScreen noTree isRetired noInstruction wordHalt

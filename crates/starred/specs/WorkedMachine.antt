@@ -5,8 +5,8 @@ use mathlib.Core.List.{List, [], _∷_}
 use lib.ListN.{getD, replicate}
 use Rattle.rules.specs.Folds.{bit}
 use Rattle.ram.specs.Ram.{loadHalf}
-use Rattle.instructions.specs.Opcodes.{current, LD, ST, LI, ADD, SUB, MUL, MULF, RECP, XOR, NOT, LSL, LSR, ASRI, CALL, JEQ, JNE, JLTL}
-use Rattle.instructions.specs.Opcodes.{JLE, JGT, DOT, READ, WRITE, SCRSET, CLS, TREESET, TREEIN, TREEVAL, TREEPUT}
+use Rattle.instructions.specs.Opcodes.{current, LD, ST, LI, ADD, SUB, MUL, MULF, RECP, XOR, NOT, LSL, LSR, ASR, LSLI, LSRI, ASRI, CALL}
+use Rattle.instructions.specs.Opcodes.{JEQ, JNE, JLTL, JLE, JGT, DOT, READ, WRITE, SCRSET, CLS, TREESET, TREEIN, TREEVAL, TREEPUT}
 use Rattle.instructions.specs.Words.{register}
 use Rattle.instructions.specs.Tree.{each, markI, markO}
 use Rattle.instructions.specs.Step.{Machine, withRegisters}
@@ -76,10 +76,19 @@ workedRuns =
     ∷ case (65536 ∷ 0 ∷ 0 ∷ []) (of MUL 65536 65537)
     ∷ case (6 ∷ 0 ∷ 0 ∷ []) (of XOR 12 10)
     ∷ case (0xFFFFFFF3 ∷ 1 ∷ 0 ∷ []) (of NOT 12 0)
-    -- shifts: by 33 is by 1; LSR does not keep the sign; ASRI does, and takes imm
-    ∷ case (6 ∷ 0 ∷ 0 ∷ []) (of LSL 3 33)
+    -- shifts: LSR does not keep the sign; ASRI does, and takes imm. By 32, 33 or 64 LSL and LSR leave 0, and ASR 0 or -1
+    ∷ case (0x80000000 ∷ 1 ∷ 0 ∷ []) (of LSL 3 31)
+    ∷ case (0 ∷ 0 ∷ 1 ∷ []) (of LSL 3 32)
+    ∷ case (0 ∷ 0 ∷ 1 ∷ []) (of LSL 3 33)
     ∷ case (1 ∷ 0 ∷ 0 ∷ []) (of LSR 0x80000000 31)
+    ∷ case (0 ∷ 0 ∷ 1 ∷ []) (of LSR 0x80000000 32)
+    ∷ case (0 ∷ 0 ∷ 1 ∷ []) (of ASR 0x7FFFFFFF 64)
+    ∷ case (0xFFFFFFFF ∷ 1 ∷ 0 ∷ []) (of ASR 0x80000000 64)
     ∷ case (0xF8000000 ∷ 1 ∷ 0 ∷ []) (results 1 (by ASRI 1 2 4 ∷ []) (given 0 0x80000000 0 0 0))
+    -- imm is unsigned: 0x8000 is 32,768, and 0xFFC0 65,472
+    ∷ case (0 ∷ 0 ∷ 1 ∷ []) (results 1 (by LSLI 1 2 0x8000 ∷ []) (given 0 3 0 0 0))
+    ∷ case (0 ∷ 0 ∷ 1 ∷ []) (results 1 (by LSRI 1 2 0xFFC0 ∷ []) (given 0 0xFFFFFFFF 0 0 0))
+    ∷ case (0xFFFFFFFF ∷ 1 ∷ 0 ∷ []) (results 1 (by ASRI 1 2 0xFFC0 ∷ []) (given 0 0xFFFFFFFE 0 0 0))
     -- MULF: 1.5 · -1.5 is -2.25, in 65536ths. RECP: a third of 2147483647, toward zero; "of 0 it is 2147483647"
     ∷ case (0xFFFDC000 ∷ 1 ∷ 0 ∷ []) (of MULF 98304 0xFFFE8000)
     ∷ case (715827882 ∷ 0 ∷ 0 ∷ []) (of RECP 3 0)
