@@ -1,10 +1,10 @@
 //! The second program.
 //!
-//! It says document 01 (exact rules), as M-100 and M-101 of 02 (change requests)
-//! change it, once more, independently of the engine and in their order and
-//! words, as plainly as possible: one loop over every pixel of the screen, numbers
-//! wide enough never to overflow, no shortcuts. It is there to be compared with
-//! the engine, not to be fast. The drawing is here; the machine is in
+//! It says document 01 (exact rules), as M-100, M-101 and M-103 of 02 (change
+//! requests) change it, once more, independently of the engine and in their order
+//! and words, as plainly as possible: one loop over every pixel of the screen,
+//! numbers wide enough never to overflow, no shortcuts. It is there to be compared
+//! with the engine, not to be fast. The drawing is here; the machine is in
 //! [`machine`], the plane through three values in [`through`].
 
 pub mod machine;

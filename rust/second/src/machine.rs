@@ -1,5 +1,6 @@
-//! The machine of document 01, step by step: one test for each row of the
-//! table of halts, one `match` over the 41 opcodes, one leaf after the other.
+//! The machine of document 01, as M-103 of 02 changes it, step by step: one test
+//! for each row of the table of halts, one `match` over the 41 opcodes, one leaf
+//! after the other.
 
 use crate::{clear, colour_of, half_word, ram_too_long, set_half_word, sound, Screen};
 
@@ -263,6 +264,35 @@ pub fn recp(operand: u32) -> u32 {
     keep_32_bits(2147483647 / signed(operand))
 }
 
+// 02, M-103: "All six shifts now take the whole amount, the register read as
+// unsigned or the 16-bit imm. ... This replaces 01's five-bit rule". So an amount
+// is any number from 0 to 2^32 - 1.
+
+/// 02, M-103: "From 32 on, LSL and LSR give 0 ... Below 32 nothing changes."
+pub fn lsl(operand: u32, amount: i128) -> u32 {
+    if amount >= 32 {
+        return 0;
+    }
+    keep_32_bits(unsigned(operand) * (1 << amount))
+}
+
+/// 02, M-103: "From 32 on, LSL and LSR give 0 ... Below 32 nothing changes."
+pub fn lsr(operand: u32, amount: i128) -> u32 {
+    if amount >= 32 {
+        return 0;
+    }
+    keep_32_bits(unsigned(operand) / (1 << amount))
+}
+
+/// 02, M-103: "From 32 on ... ASR gives 0 or -1 by the sign. Below 32 nothing
+/// changes." 01: "ASR keeps the sign."
+pub fn asr(operand: u32, amount: i128) -> u32 {
+    if amount >= 32 {
+        return keep_32_bits(if signed(operand) < 0 { -1 } else { 0 });
+    }
+    keep_32_bits(signed(operand).div_euclid(1 << amount))
+}
+
 /// "DOT reads four words from each of the data addresses in r2 and r3, rounds
 /// each product as MULF does, then adds."
 pub fn dot(data: &[u32], first: i128, second: i128) -> u32 {
@@ -348,9 +378,10 @@ fn carry_out(program: &[u32], data: &mut [u32], ram: &mut [u8], state: &mut Stat
     let r2 = state.registers[word.r2];
     let r3 = state.registers[word.r3];
     let address = address(&word, state);
-    // "Shift amounts are the low five bits of r3 or imm (house)."
-    let by_register = unsigned(r3) % 32;
-    let by_imm = word.imm % 32;
+    // 02, M-103: "All six shifts now take the whole amount, the register read as
+    // unsigned or the 16-bit imm."
+    let by_register = unsigned(r3);
+    let by_imm = word.imm;
 
     // "A jump goes to address, any other step to the next place; there is no
     // delay slot".
@@ -377,13 +408,12 @@ fn carry_out(program: &[u32], data: &mut [u32], ram: &mut [u8], state: &mut Stat
         XOR => state.result(word.r1, unsigned(r2) ^ unsigned(r3)),
         NOT => state.result(word.r1, !signed(r2)),
 
-        LSL => state.result(word.r1, unsigned(r2) * (1 << by_register)),
-        LSR => state.result(word.r1, unsigned(r2) / (1 << by_register)),
-        // "ASR keeps the sign."
-        ASR => state.result(word.r1, signed(r2).div_euclid(1 << by_register)),
-        LSLI => state.result(word.r1, unsigned(r2) * (1 << by_imm)),
-        LSRI => state.result(word.r1, unsigned(r2) / (1 << by_imm)),
-        ASRI => state.result(word.r1, signed(r2).div_euclid(1 << by_imm)),
+        LSL => state.result(word.r1, unsigned(lsl(r2, by_register))),
+        LSR => state.result(word.r1, unsigned(lsr(r2, by_register))),
+        ASR => state.result(word.r1, unsigned(asr(r2, by_register))),
+        LSLI => state.result(word.r1, unsigned(lsl(r2, by_imm))),
+        LSRI => state.result(word.r1, unsigned(lsr(r2, by_imm))),
+        ASRI => state.result(word.r1, unsigned(asr(r2, by_imm))),
 
         JMP => state.place = jump(true),
         // "CALL puts the next place in R31 after address is worked out
@@ -578,4 +608,56 @@ pub fn step(program: &[u32], data: &mut [u32], ram: &mut [u8], given: &State) ->
         halt => stepped.state.halt = halt,
     }
     stepped
+}
+
+#[cfg(test)]
+mod tests {
+    use super::*;
+
+    /// R3 and the two flags after one step of this opcode: the operand in R1, the
+    /// amount in R2 or as imm.
+    fn shifted(opcode: u32, operand: u32, amount: u32) -> (u32, bool, bool) {
+        let last = if opcode >= LSLI { amount } else { 2 << 11 };
+        let word = opcode << 26 | 3 << 21 | 1 << 16 | last;
+        let mut given = State { negative: true, zero: true, ..fresh() };
+        (given.registers[1], given.registers[2]) = (operand, if opcode >= LSLI { 0 } else { amount });
+        let stepped = step(&[word], &mut [0; DATA_WORDS], &mut [], &given);
+        assert!(stepped.carried_out);
+        (stepped.state.registers[3], stepped.state.negative, stepped.state.zero)
+    }
+
+    const OPERANDS: [u32; 8] = [0, 1, 2, 0x1234_5678, 0x7fff_ffff, 0x8000_0000, 0xfedc_ba98, u32::MAX];
+
+    #[test]
+    fn nothing_is_left_from_32_on() {
+        for amount in [32, 33, 63, 64, 96, 256, 32767, 32768, 65535, 65536, 65537, 1 << 31, u32::MAX - 31, u32::MAX] {
+            for operand in OPERANDS {
+                let sign = if operand >= 1 << 31 { (u32::MAX, true, false) } else { (0, false, true) };
+                for (by_register, by_imm, wanted) in
+                    [(LSL, LSLI, (0, false, true)), (LSR, LSRI, (0, false, true)), (ASR, ASRI, sign)]
+                {
+                    assert_eq!(shifted(by_register, operand, amount), wanted);
+                    if amount <= 65535 {
+                        assert_eq!(shifted(by_imm, operand, amount), wanted);
+                    }
+                }
+            }
+        }
+    }
+
+    #[test]
+    fn nothing_changes_below_32() {
+        for amount in 0..32 {
+            for operand in OPERANDS {
+                let [left, right, kept] = [operand << amount, operand >> amount, (operand as i32 >> amount) as u32];
+                for (opcode, wanted) in
+                    [(LSL, left), (LSLI, left), (LSR, right), (LSRI, right), (ASR, kept), (ASRI, kept)]
+                {
+                    assert_eq!(shifted(opcode, operand, amount), (wanted, wanted >= 1 << 31, wanted == 0));
+                }
+            }
+        }
+        // 01: "ASR of -3 by 1 is -2."
+        assert_eq!(shifted(ASR, 3u32.wrapping_neg(), 1).0 as i32, -2);
+    }
 }
