@@ -99,6 +99,28 @@ pub enum Slip {
     TableSign,
     /// RECP leaves the flags where it looks up.
     TableFlags,
+    /// A shift takes the low five bits of its amount, as 01 had it before 02.
+    ShiftFiveBits,
+    /// A shift takes the low six bits.
+    ShiftSixBits,
+    /// A shift takes the low 16 bits of a register, as many as imm has.
+    ShiftLowHalf,
+    /// A shift by a register reads it as signed, and by less than 0 does nothing.
+    ShiftSignedRegister,
+    /// The same of imm, sign-extended.
+    ShiftSignedImm,
+    /// A shift by 32 does nothing; from 33 on it is right.
+    Shift32,
+    /// A shift by more than 31 is one by 31, which is right for ASR alone.
+    ShiftCapped,
+    /// From 32 on, ASR gives 0 whatever the sign.
+    AsrZero,
+    /// From 32 on, LSR gives 0 or -1 by the sign.
+    LsrSign,
+    /// A shift by 32 or more leaves the flags.
+    ShiftFlags,
+    /// In a run of `LONG_RUN` steps or more, a shift takes the low five bits.
+    ShiftLongRuns,
 }
 
 impl Slip {
@@ -139,7 +161,7 @@ pub enum Part {
     Machine,
 }
 
-pub const SLIPS: [(&str, Slip); 42] = [
+pub const SLIPS: [(&str, Slip); 53] = [
     ("upper-left", Slip::UpperLeft),
     ("upper-left-x", Slip::UpperLeftX),
     ("upper-left-y", Slip::UpperLeftY),
@@ -182,6 +204,17 @@ pub const SLIPS: [(&str, Slip); 42] = [
     ("table-low-bits", Slip::TableLowBits),
     ("table-sign", Slip::TableSign),
     ("table-flags", Slip::TableFlags),
+    ("shift-five-bits", Slip::ShiftFiveBits),
+    ("shift-six-bits", Slip::ShiftSixBits),
+    ("shift-low-half", Slip::ShiftLowHalf),
+    ("shift-signed-register", Slip::ShiftSignedRegister),
+    ("shift-signed-imm", Slip::ShiftSignedImm),
+    ("shift-32", Slip::Shift32),
+    ("shift-capped", Slip::ShiftCapped),
+    ("asr-zero", Slip::AsrZero),
+    ("lsr-sign", Slip::LsrSign),
+    ("shift-flags", Slip::ShiftFlags),
+    ("shift-long-runs", Slip::ShiftLongRuns),
 ];
 
 #[derive(Clone, Copy, Debug, PartialEq, Eq)]

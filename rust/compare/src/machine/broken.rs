@@ -8,7 +8,8 @@ use kit::words::fields;
 use merikohin::raw::{Ran, Stepped};
 use merikohin::State;
 use second::machine::{
-    self, leaf_value, recp, ASRI, CALL, DOT, LD, MULF, READ, RECP, SCRSET, ST, TREEIN, TREEVAL, WRITE,
+    self, asr, leaf_value, lsl, lsr, recp, ASRI, CALL, DOT, LD, LSL, LSLI, LSR, LSRI, MULF, READ, RECP, SCRSET, ST,
+    TREEIN, TREEVAL, WRITE,
 };
 
 pub fn run(slip: Slip, program: &[u32], data: &mut [u32], ram: &mut [u8], lent: State, allowed: u64) -> Ran {
@@ -30,9 +31,11 @@ pub fn run(slip: Slip, program: &[u32], data: &mut [u32], ram: &mut [u8], lent: 
         }
         let before = state;
         let word = program.get(before.place as usize).copied().unwrap_or(u32::MAX);
-        let (opcode, r1, r2, r3, _) = fields(word);
+        let (opcode, r1, r2, r3, imm) = fields(word);
         let (v1, v2) = (before.registers[r1], before.registers[r2]);
         let in_tree = opcode == TREEIN || opcode == TREEVAL;
+        let shifts = (LSL..=ASRI).contains(&opcode);
+        let amount = if opcode >= LSLI { imm } else { before.registers[r3] };
 
         // The step itself, from a state that a slip may have changed.
         let mut entry = before;
@@ -95,6 +98,11 @@ pub fn run(slip: Slip, program: &[u32], data: &mut [u32], ram: &mut [u8], lent: 
                 (state.negative, state.zero) = (before.negative, before.zero);
             }
             _ if opcode == RECP && allowed >= LONG_RUN => result(&mut state, r1, looked_up(slip, v2)),
+            Slip::ShiftFlags if shifts && amount >= 32 => {
+                (state.negative, state.zero) = (before.negative, before.zero);
+            }
+            Slip::ShiftLongRuns if allowed < LONG_RUN => {}
+            _ if shifts => result(&mut state, r1, shifted(slip, opcode, v2, amount)),
             _ => {}
         }
     }
@@ -121,6 +129,28 @@ fn looked_up(slip: Slip, operand: u32) -> u32 {
         Slip::TableLowBits if in_table(low) => recp(low),
         Slip::TableSign if in_table(size) => recp(size),
         _ => recp(operand),
+    }
+}
+
+/// A shift with one slip.
+fn shifted(slip: Slip, opcode: u32, operand: u32, amount: u32) -> u32 {
+    let by_imm = opcode >= LSLI;
+    let taken = i128::from(match slip {
+        Slip::ShiftFiveBits | Slip::ShiftLongRuns => amount % 32,
+        Slip::ShiftSixBits => amount % 64,
+        Slip::ShiftLowHalf => amount % 65536,
+        Slip::ShiftSignedRegister if amount >= 1 << 31 => 0,
+        Slip::ShiftSignedImm if by_imm && amount >= 1 << 15 => 0,
+        Slip::Shift32 if amount == 32 => 0,
+        Slip::ShiftCapped => amount.min(31),
+        _ => amount,
+    });
+    match opcode {
+        LSL | LSLI => lsl(operand, taken),
+        LSR | LSRI if slip == Slip::LsrSign && amount >= 32 => asr(operand, taken),
+        LSR | LSRI => lsr(operand, taken),
+        _ if slip == Slip::AsrZero && amount >= 32 => 0,
+        _ => asr(operand, taken),
     }
 }
 

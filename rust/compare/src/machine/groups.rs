@@ -2,20 +2,22 @@
 
 use super::case::{mixed_word, second_state, with_regs, with_screen, with_tree, Case, DataFill, EXTREMES, FRESH};
 use super::parts::{any_word, instruction, leaf_values, mark, register, screen_in, state_in, tree_on, yes};
-use super::{long, reciprocals, samples, states};
+use super::{long, reciprocals, samples, shifts, states};
 use crate::case::Fill;
 use crate::groups::{area, size, tight};
 use crate::run::Run;
 use kit::rng::Rng;
-use kit::words::{idle, rri, rrr, to};
+use kit::words::{fields, idle, rri, rrr, to};
 use merikohin::raw::Ran;
 use merikohin::{Screen, State};
 use second::machine::*;
 
 pub fn all(run: &mut Run) {
     run.group("01's table of words", table);
-    // Every wrong table is caught here, so that the self-check goes no further.
+    // Every wrong table is caught here, and then every wrong shift, so that the
+    // self-check goes no further.
     run.group("RECP, each operand", reciprocals::each);
+    run.group("shifts, each amount", shifts::each);
     run.group("the fresh state", fresh_state);
     run.group("640 by 480 by SCRSET", full_size);
     run.group("places and program lengths", places);
@@ -37,7 +39,11 @@ pub fn all(run: &mut Run) {
     run.group("RECP, registers and flags", reciprocals::registers);
     run.group("RECP, counted and stored", reciprocals::counted);
     run.group("RECP, all of data memory", reciprocals::replaced);
-    run.group("shifts", shifts);
+    run.group("shifts by less than 32", shifts::below_32);
+    run.group("shifts, registers and flags", shifts::registers);
+    run.group("shifts, every imm", shifts::every_imm);
+    run.group("shifts, counted and stored", shifts::counted);
+    run.group("two shifts in turn", shifts::in_turn);
     run.group("R0, and one register twice", same_registers);
     run.group("flags and jumps", jumps);
     run.group("CALL", calls);
@@ -52,6 +58,7 @@ pub fn all(run: &mut Run) {
     run.group("rasterization loop", samples::rasterization);
     run.group("short random programs", short_programs);
     run.group("random programs with many RECPs", reciprocals::programs);
+    run.group("random programs with many shifts", shifts::programs);
     run.group("long random programs", long::programs);
 }
 
@@ -89,6 +96,27 @@ fn result(run: &mut Run, rng: &mut Rng, word: u32, regs: &[(u32, u32)], wanted: 
             }
         }
     }
+}
+
+/// A run of a program that touches neither memory, and its first two single
+/// steps.
+pub fn one_run(program: Vec<u32>, state: State, budget: u64) -> Case {
+    let case = Case::one(program, 0, 0, state, budget);
+    Case { data_fill: DataFill::Word(7), singly: 2, ..case }
+}
+
+/// The program's last word gives this result and its flags. Every word is
+/// carried out, and with more steps than words the run halts behind it.
+pub fn gives(run: &mut Run, case: &Case, wanted: u32) {
+    let length = case.program.len();
+    let halt = if case.runs[0] > length as u64 { 12 } else { 0 };
+    let Some(ran) = run.machine_wants(case, 0, Some(length as u64), Some(halt)) else { return };
+    let (_, r1, ..) = fields(case.program[length - 1]);
+    let kept = if r1 == 0 { 0 } else { wanted };
+    let seen = (ran.state.registers[r1], ran.state.negative, ran.state.zero);
+    run.holds(seen == (kept, wanted >> 31, u32::from(wanted == 0)), || {
+        format!("{case}: wanted {wanted:x}, answered, with the two flags, {seen:x?}")
+    });
 }
 
 /// A screen of 16 by 4 in 256 bytes.
@@ -763,42 +791,6 @@ fn operands(run: &mut Run, rng: &mut Rng) {
 fn one_word(word: u32, state: State) -> Case {
     let case = Case::one(vec![word], 0, 0, state, 1);
     Case { data_fill: DataFill::Word(7), ..case }
-}
-
-/// "Shift amounts are the low five bits of r3 or imm (house). ASR keeps the
-/// sign."
-fn shifts(run: &mut Run, rng: &mut Rng) {
-    let values =
-        [0u32, 1, 2, 3, 0x8000_0000, 0x8000_0001, 0xc000_0000, 0x7fff_ffff, u32::MAX, 0x1234_5678, 0xfedc_ba98];
-    let high = [0u32, 32, 64, 96, 0x8000, 0xffe0, 0xffff_ffe0, 1 << 31, 1 << 16];
-    for a in values {
-        for low in 0..32u32 {
-            let wanted = [a << low, a >> low, ((a as i32) >> low) as u32];
-            for high in high {
-                let by = high | low;
-                for k in 0..3 {
-                    let case = one_word(rrr(LSL + k, 3, 1, 2), with_regs(&[(1, a), (2, by)]));
-                    shifted(run, &case, wanted[k as usize]);
-                    let word = rri(LSLI + k, 3, 1, i64::from(by & 0xffff));
-                    shifted(run, &one_word(word, with_regs(&[(1, a)])), wanted[k as usize]);
-                }
-            }
-        }
-    }
-    // The shifted register as its own amount.
-    for _ in 0..500 {
-        let a = mixed_word(rng);
-        for opcode in [LSL, LSR, ASR] {
-            wants(run, &one_word(rrr(opcode, 1, 1, 1), with_regs(&[(1, a)])), 0);
-        }
-    }
-}
-
-fn shifted(run: &mut Run, case: &Case, wanted: u32) {
-    if let Some(ran) = wants(run, case, 0) {
-        let seen = ran.state.registers[3];
-        run.holds(seen == wanted, || format!("{case}: wanted {wanted:x}, answered {seen:x}"));
-    }
 }
 
 /// "R0 is always 0, and a write to it is lost"; r1 = r2, r1 = r3, r2 = r3.

@@ -1,12 +1,14 @@
 //! Long random programs. They are made of blocks that mostly do not halt:
 //! arithmetic on a dozen registers, loads and stores, DOT, READ and WRITE,
 //! screens, trees, skips, loops and routines; addresses are kept in range by
-//! AND with a mask. Some have many RECPs, mostly of small operands. An outer loop
-//! repeats all of it, and what comes after it halts, or is endless.
+//! AND with a mask. Some have many RECPs, mostly of small operands, some many
+//! shifts, mostly by less than 32. An outer loop repeats all of it, and what comes
+//! after it halts, or is endless.
 
 use super::case::{mixed_word, second_state, Case, FRESH};
-use super::parts::{any_word, screen_in, tree_on};
-use super::reciprocals::LONG_RUN;
+use super::groups::in_parts;
+use super::parts::{amount, any_word, screen_in, tree_on};
+use super::reciprocals::{cut, LONG_RUN};
 use crate::groups::{area, size};
 use crate::random::sound_screen;
 use crate::run::Run;
@@ -41,9 +43,19 @@ const ROW_MASK: u32 = 25;
 const OUTER: u32 = 26;
 const COUNTS: [u32; 2] = [27, 28];
 const ALL_LEAVES: u32 = 29;
+/// 31: with it, an amount to shift by that leaves something.
+const SHIFT_MASK: u32 = 30;
 
 pub struct Long {
     pub case: Case,
+}
+
+/// What about every other plain block of a program is.
+#[derive(Clone, Copy, PartialEq, Eq)]
+pub enum Often {
+    Nothing,
+    Reciprocals,
+    Shifts,
 }
 
 struct Maker<'a> {
@@ -55,8 +67,7 @@ struct Maker<'a> {
     steps: u64,
     /// How often one of the words is anything at all; 0 for never.
     danger: u64,
-    /// Whether about every other plain block is a RECP.
-    reciprocals: bool,
+    often: Often,
 }
 
 impl Maker<'_> {
@@ -98,12 +109,49 @@ impl Maker<'_> {
         let (r1, r2, r3) = (self.target(), self.source(), self.source());
         let opcode = self.rng.between(i64::from(LI), i64::from(ASRI)) as u32;
         match opcode {
-            LI | LSLI | LSRI | ASRI => {
+            LI => {
                 let imm = self.rng.next() as i64;
                 self.rri(opcode, r1, r2, imm);
             }
+            LSL..=ASRI => self.shift(opcode, r1, r2, r3),
             _ => self.rrr(opcode, r1, r2, r3),
         }
+    }
+
+    /// A shift by imm, or by what r3 holds. Few registers hold less than 32, so
+    /// mostly r3 is masked, and now and then a little is added to that.
+    fn shift(&mut self, opcode: u32, r1: u32, r2: u32, r3: u32) {
+        if opcode >= LSLI {
+            let imm = amount(self.rng);
+            return self.rri(opcode, r1, r2, i64::from(imm));
+        }
+        match self.rng.next() % 16 {
+            0 => return self.rrr(opcode, r1, r2, r3),
+            1 => {
+                let by = amount(self.rng);
+                self.rri(LI, FIRST, 0, i64::from(by));
+            }
+            2 => {
+                // 0 to 31, and then up to 70.
+                self.rrr(AND, FIRST, r3, SHIFT_MASK);
+                let more = self.rng.between(1, 39);
+                self.rri(LI, FIRST, FIRST, more);
+            }
+            _ => self.rrr(AND, FIRST, r3, SHIFT_MASK),
+        }
+        self.rrr(opcode, r1, r2, FIRST);
+    }
+
+    /// A shift of a register, or of a word of data memory.
+    fn any_shift(&mut self) {
+        let opcode = self.rng.between(i64::from(LSL), i64::from(ASRI)) as u32;
+        let (r1, mut r2, r3) = (self.target(), self.source(), self.source());
+        if self.rng.chance(2) {
+            let address = self.rng.between(0, 1023);
+            self.rri(LD, SECOND, 0, address);
+            r2 = SECOND;
+        }
+        self.shift(opcode, r1, r2, r3);
     }
 
     /// RECP of an operand on either side of 0 and of 512, or of any.
@@ -271,8 +319,10 @@ impl Maker<'_> {
             let word = any_word(self.rng);
             self.program.add(word);
         }
-        if self.reciprocals && self.rng.chance(2) {
-            return self.reciprocal();
+        match self.often {
+            Often::Reciprocals if self.rng.chance(2) => return self.reciprocal(),
+            Often::Shifts if self.rng.chance(2) => return self.any_shift(),
+            _ => {}
         }
         match self.rng.next() % 16 {
             0..=6 => self.arithmetic(),
@@ -345,18 +395,18 @@ impl Maker<'_> {
     }
 }
 
-/// One program with its first state and memories; one in four has many RECPs.
+/// One program with its first state and memories; one in four has many RECPs, one
+/// in eight many shifts.
 pub fn program(rng: &mut Rng) -> Long {
-    let reciprocals = rng.chance(4);
-    made(rng, reciprocals)
+    let often = match rng.next() % 8 {
+        0 | 1 => Often::Reciprocals,
+        2 => Often::Shifts,
+        _ => Often::Nothing,
+    };
+    made(rng, often)
 }
 
-/// One that has many RECPs.
-pub fn with_reciprocals(rng: &mut Rng) -> Long {
-    made(rng, true)
-}
-
-fn made(rng: &mut Rng, reciprocals: bool) -> Long {
+fn made(rng: &mut Rng, often: Often) -> Long {
     // Two screens, the second at least as large as the first.
     let (groups, height) = (rng.pick(&[1u32, 1, 2, 4]), rng.pick(&[1u32, 2, 4, 4, 8]));
     let first = size(groups, height);
@@ -375,6 +425,7 @@ fn made(rng: &mut Rng, reciprocals: bool) -> Long {
         (COLUMN_MASK, (groups - 1) * 16),
         (ROW_MASK, height - 1),
         (ALL_LEAVES, u32::MAX),
+        (SHIFT_MASK, 31),
     ];
     for (screen, (colour, depth)) in screens.iter().zip(SCREENS) {
         constants.extend([(colour, screen.colour_start), (depth, screen.depth_start)]);
@@ -385,8 +436,7 @@ fn made(rng: &mut Rng, reciprocals: bool) -> Long {
     let target = rng.between(1_100, 2_400) as u64;
     let words_at_most = rng.pick(&[60usize, 120, 120, 250, 900]);
     let fresh = rng.chance(2);
-    let mut maker =
-        Maker { rng, program: Program::default(), screens, routines: Vec::new(), steps: 0, danger, reciprocals };
+    let mut maker = Maker { rng, program: Program::default(), screens, routines: Vec::new(), steps: 0, danger, often };
     let mut state = FRESH;
     if fresh {
         // The constants by LI, the free registers by LD and by what they meet.
@@ -455,11 +505,16 @@ pub struct Profile {
     by_opcode: [u64; 41],
     /// RECP of each operand of 02's table, in a long run.
     by_operand: [u64; 512],
+    /// Shifts by less than 32, by 32 to 70, by more.
+    by_amount: [u64; 3],
+    /// Results put in R1 to R12, and those that are neither 0 nor -1.
+    words: u64,
+    rich: u64,
 }
 
 impl Profile {
     pub fn none() -> Profile {
-        Profile { by_opcode: [0; 41], by_operand: [0; 512] }
+        Profile { by_opcode: [0; 41], by_operand: [0; 512], by_amount: [0; 3], words: 0, rich: 0 }
     }
 
     pub fn add(&mut self, case: &Case) {
@@ -470,8 +525,8 @@ impl Profile {
         for &allowed in &case.runs {
             for _ in 0..allowed {
                 let Some(&word) = case.program.get(state.place as usize) else { return };
-                let (opcode, _, r2, ..) = fields(word);
-                let operand = state.registers[r2];
+                let (opcode, r1, r2, r3, imm) = fields(word);
+                let (operand, by_register) = (state.registers[r2], state.registers[r3]);
                 let ran = second::machine::run(&case.program, &mut data, &mut ram, &state, 1);
                 if ran.steps == 0 {
                     return;
@@ -480,15 +535,23 @@ impl Profile {
                 if opcode == RECP && allowed >= LONG_RUN && (1..=512).contains(&operand) {
                     self.by_operand[operand as usize - 1] += 1;
                 }
+                if (LSL..=ASRI).contains(&opcode) {
+                    let amount = if opcode >= LSLI { imm } else { by_register };
+                    self.by_amount[usize::from(amount >= 32) + usize::from(amount > 70)] += 1;
+                }
+                let free = (FREE.0..=FREE.1).contains(&(r1 as i64));
+                if free && ((LD..=ASRI).contains(&opcode) && opcode != ST || opcode == DOT) {
+                    self.words += 1;
+                    self.rich += u64::from(!matches!(ran.state.registers[r1], 0 | u32::MAX));
+                }
                 state = ran.state;
             }
         }
     }
 
     fn share(&self, opcodes: &[u32]) -> String {
-        let all = self.by_opcode.iter().sum::<u64>().max(1);
         let of = opcodes.iter().map(|&opcode| self.by_opcode[opcode as usize]).sum::<u64>();
-        format!("{}.{}%", of * 100 / all, of * 1000 / all % 10)
+        percent(of, self.by_opcode.iter().sum())
     }
 
     pub fn reciprocals(&self) -> String {
@@ -496,6 +559,44 @@ impl Profile {
         let times = self.by_operand.iter().sum::<u64>();
         format!("{} RECP; in long runs {times} times of 1 to 512, of {met} of them", self.share(&[RECP]))
     }
+
+    pub fn shifts(&self) -> String {
+        let all = self.by_amount.iter().sum();
+        let [below, close, far] = self.by_amount.map(|times| percent(times, all));
+        format!(
+            "{} shifts, {below} of them by less than 32, {close} by 32 to 70, {far} by more; \
+             {} of the results in R1 to R12 neither 0 nor -1",
+            self.share(&(LSL..=ASRI).collect::<Vec<u32>>()),
+            percent(self.rich, self.words)
+        )
+    }
+}
+
+fn percent(of: u64, all: u64) -> String {
+    let all = all.max(1);
+    format!("{}.{}%", of * 100 / all, of * 1000 / all % 10)
+}
+
+/// Programs that often have something, in one run and in parts on both sides of
+/// `LONG_RUN`; some by all their single steps. Hands back the profile of the first
+/// hundred.
+pub fn cut_programs(run: &mut Run, rng: &mut Rng, often: Often) -> Profile {
+    let mut profile = Profile::none();
+    for turn in 0..1000 {
+        let whole = made(rng, often).case;
+        let total = rng.between(800, 4 * LONG_RUN as i64) as u64;
+        let any = rng.between(1, total as i64) as u64;
+        let sizes = [(); 3].map(|()| rng.pick(&[1, 100, LONG_RUN - 1, LONG_RUN, LONG_RUN + 1, any]));
+        let one = Case { runs: vec![total], ..whole };
+        if turn < 100 && !run.quiet {
+            profile.add(&one);
+        }
+        in_parts(run, &one, total, cut(total, &sizes));
+        if turn % 5 == 0 {
+            run.machine(&Case { singly: total, ..one });
+        }
+    }
+    profile
 }
 
 /// At least the asked number of programs of 1,000 steps or more, for at least
@@ -531,13 +632,15 @@ pub fn programs(run: &mut Run, rng: &mut Rng) {
     let halts: Vec<String> = (11..18).map(|halt| format!("{} with {halt}", by_halt[halt])).collect();
     run.note(format!(
         "{long} of {LONG} steps or more, {steps} steps; {} ended with their steps, the others halted: {}; {short} shorter ones besides. \
-         Steps of the first 200: {tree} in a tree, {jumps} jumps, {} LD or ST, {} READ or WRITE, {} DOT, {}; the rarest opcode {} times",
+         Steps of the first 200: {tree} in a tree, {jumps} jumps, {} LD or ST, {} READ or WRITE, {} DOT, {}, {}; \
+         the rarest opcode {} times",
         by_halt[0],
         halts.join(", "),
         profile.share(&[LD, ST]),
         profile.share(&[READ, WRITE]),
         profile.share(&[DOT]),
         profile.reciprocals(),
+        profile.shifts(),
         profile.by_opcode.iter().min().copied().unwrap_or(0)
     ));
 }

@@ -9,6 +9,7 @@ mod long;
 mod parts;
 mod reciprocals;
 mod samples;
+mod shifts;
 mod shrink;
 mod states;
 

@@ -6,7 +6,7 @@ use crate::random::{random_size, sound_screen};
 use kit::rng::Rng;
 use kit::words::fields;
 use merikohin::{Screen, State, Tree};
-use second::machine::{ASRI, DOT, JGEL, JMP, LD, LI, LSLI, READ, SCRSET, ST, TREESET, TREEVAL, WRITE};
+use second::machine::{ASR, ASRI, DOT, JGEL, JMP, LD, LI, LSL, LSLI, READ, SCRSET, ST, TREESET, TREEVAL, WRITE};
 
 /// A register's number: often R0, one of a few, or R31.
 pub fn register(rng: &mut Rng) -> u32 {
@@ -24,6 +24,16 @@ pub fn yes(rng: &mut Rng) -> u32 {
 
 pub fn mark(rng: &mut Rng) -> u8 {
     rng.pick(&[0, 0, 1, 1, 2, 128, 255])
+}
+
+/// An amount to shift by: mostly below 32, where something is left, some close
+/// above, and some any.
+pub fn amount(rng: &mut Rng) -> u32 {
+    match rng.next() % 16 {
+        0 => rng.between(32, 70) as u32,
+        1 => mixed_word(rng),
+        _ => rng.between(0, 31) as u32,
+    }
 }
 
 /// A sound screen in a RAM this long, if one is found.
@@ -81,7 +91,8 @@ pub fn state_in(rng: &mut Rng, ram: usize) -> State {
 }
 
 /// A word of this opcode with any registers and any bits where it uses none.
-/// Mostly the state is changed so that the step does not halt.
+/// Mostly the state is changed so that the step does not halt, and a shift leaves
+/// something.
 pub fn instruction(rng: &mut Rng, opcode: u32, state: &mut State, ram: usize) -> u32 {
     let (n1, n2, n3) = (register(rng), register(rng), register(rng));
     let mut word = opcode << 26 | n1 << 21 | n2 << 16 | rng.next() as u32 & 0xffff;
@@ -118,6 +129,8 @@ pub fn instruction(rng: &mut Rng, opcode: u32, state: &mut State, ram: usize) ->
                 set(state, n2, address.wrapping_sub(imm as u16 as i16 as u32));
             }
         }
+        LSL..=ASR if n3 != n2 => set(state, n3, amount(rng)),
+        LSLI..=ASRI => set_imm(&mut word, amount(rng)),
         DOT => {
             set(state, n2, edge(rng, 1020));
             set(state, n3, edge(rng, 1020));

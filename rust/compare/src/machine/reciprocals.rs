@@ -3,13 +3,13 @@
 //! engine looks reciprocals up in long runs alone, so a single step never meets
 //! the table.
 
-use super::case::{with_regs, Case, DataFill, EXTREMES, FRESH};
-use super::groups::in_parts;
-use super::long::{self, Profile};
+use super::case::{with_regs, Case, EXTREMES, FRESH};
+use super::groups::{gives, in_parts, one_run};
+use super::long::{self, Often};
 use super::parts::state_in;
 use crate::run::Run;
 use kit::rng::Rng;
-use kit::words::{fields, idle, rri, rrr, to, Program};
+use kit::words::{idle, rri, rrr, to, Program};
 use merikohin::State;
 use second::machine::*;
 
@@ -17,13 +17,13 @@ use second::machine::*;
 pub const LONG_RUN: u64 = 1_024;
 
 /// Far above it, and on both sides of it.
-const BUDGETS: [u64; 4] = [1_000_000, LONG_RUN, LONG_RUN - 1, 1];
+pub const BUDGETS: [u64; 4] = [1_000_000, LONG_RUN, LONG_RUN - 1, 1];
 
 fn minus(n: u32) -> u32 {
     n.wrapping_neg()
 }
 
-fn around(n: u64) -> [u64; 3] {
+pub fn around(n: u64) -> [u64; 3] {
     [n.wrapping_sub(1), n, n.wrapping_add(1)]
 }
 
@@ -38,13 +38,6 @@ fn reciprocal(operand: u32) -> u32 {
     }
 }
 
-/// A run of a program that touches neither memory, and its first two single
-/// steps.
-fn one_run(program: Vec<u32>, state: State, budget: u64) -> Case {
-    let case = Case::one(program, 0, 0, state, budget);
-    Case { data_fill: DataFill::Word(7), singly: 2, ..case }
-}
-
 /// The operand in R1, and both flags set: every result clears one at least.
 fn with_operand(operand: u32) -> State {
     State { negative: 1, zero: 1, ..with_regs(&[(1, operand)]) }
@@ -52,16 +45,7 @@ fn with_operand(operand: u32) -> State {
 
 /// The RECP that is the program's last word gives its result and its flags.
 fn wants(run: &mut Run, case: &Case, operand: u32) {
-    let length = case.program.len();
-    let halt = if case.runs[0] > length as u64 { 12 } else { 0 };
-    let Some(ran) = run.machine_wants(case, 0, Some(length as u64), Some(halt)) else { return };
-    let (_, r1, ..) = fields(case.program[length - 1]);
-    let wanted = reciprocal(operand);
-    let kept = if r1 == 0 { 0 } else { wanted };
-    let seen = (ran.state.registers[r1], ran.state.negative, ran.state.zero);
-    run.holds(seen == (kept, wanted >> 31, u32::from(wanted == 0)), || {
-        format!("{case}: wanted {wanted:x}, answered, with the two flags, {seen:x?}")
-    });
+    gives(run, case, reciprocal(operand));
 }
 
 /// Every small operand, those around each power of two, those with bits set
@@ -182,7 +166,7 @@ fn counting(first: i64) -> (Vec<u32>, u64) {
 }
 
 /// A run cut into runs of these sizes, in turn.
-fn cut(total: u64, sizes: &[u64]) -> Vec<u64> {
+pub fn cut(total: u64, sizes: &[u64]) -> Vec<u64> {
     let mut parts = Vec::new();
     let mut left = total;
     for &size in sizes.iter().cycle() {
@@ -248,23 +232,8 @@ pub fn replaced(run: &mut Run, rng: &mut Rng) {
     run.note(format!("{} operands", list.len()));
 }
 
-/// Random programs with many RECPs, in one run and in parts on both sides of
-/// `LONG_RUN`; some by all their single steps.
+/// Random programs with many RECPs.
 pub fn programs(run: &mut Run, rng: &mut Rng) {
-    let mut profile = Profile::none();
-    for turn in 0..1000 {
-        let whole = long::with_reciprocals(rng).case;
-        let total = rng.between(800, 4 * LONG_RUN as i64) as u64;
-        let any = rng.between(1, total as i64) as u64;
-        let sizes = [(); 3].map(|()| rng.pick(&[1, 100, LONG_RUN - 1, LONG_RUN, LONG_RUN + 1, any]));
-        let one = Case { runs: vec![total], ..whole };
-        if turn < 100 && !run.quiet {
-            profile.add(&one);
-        }
-        in_parts(run, &one, total, cut(total, &sizes));
-        if turn % 5 == 0 {
-            run.machine(&Case { singly: total, ..one });
-        }
-    }
+    let profile = long::cut_programs(run, rng, Often::Reciprocals);
     run.note(format!("steps of the first 100: {}", profile.reciprocals()));
 }
