@@ -27,6 +27,22 @@ static uint32_t recp(uint32_t a)
     return a == 0 ? 2147483647 : (uint32_t)(2147483647 / (int32_t)a);
 }
 
+/* C shifts 32 bits by 31 at most. */
+static uint32_t lsl(uint32_t a, uint32_t n)
+{
+    return n < 32 ? a << n : 0;
+}
+
+static uint32_t lsr(uint32_t a, uint32_t n)
+{
+    return n < 32 ? a >> n : 0;
+}
+
+static uint32_t asr(uint32_t a, uint32_t n)
+{
+    return (uint32_t)((int32_t)a >> (n < 32 ? n : 31));
+}
+
 /* Number 15 or 16, or 0. */
 static uint32_t move_number(size_t ram_len, uint32_t data, uint32_t at)
 {
@@ -148,12 +164,12 @@ static uint32_t step(const struct lent *m, merikohin_state *s)
     case OR: value = R2 | R3; break;
     case XOR: value = R2 ^ R3; break;
     case NOT: value = ~R2; break;
-    case LSL: value = R2 << (R3 & 31); break;
-    case LSR: value = R2 >> (R3 & 31); break;
-    case ASR: value = (uint32_t)((int32_t)R2 >> (R3 & 31)); break;
-    case LSLI: value = R2 << (IMM & 31); break;
-    case LSRI: value = R2 >> (IMM & 31); break;
-    case ASRI: value = (uint32_t)((int32_t)R2 >> (IMM & 31)); break;
+    case LSL: value = lsl(R2, R3); break;
+    case LSR: value = lsr(R2, R3); break;
+    case ASR: value = asr(R2, R3); break;
+    case LSLI: value = lsl(R2, IMM); break;
+    case LSRI: value = lsr(R2, IMM); break;
+    case ASRI: value = asr(R2, IMM); break;
     case DOT: {
         uint32_t a = R2, b = R3;
         if (a > 1020 || b > 1020)

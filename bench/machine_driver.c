@@ -31,6 +31,8 @@ const struct named workloads[] = {
     {"recp-small", "RECP loop, operands 1 to 512"},
     {"recp-large", "RECP loop, operands above 512"},
     {"recp-mixed", "RECP loop, operands of both kinds"},
+    {"shifts", "shift loop, amounts below 32"},
+    {"shifts-long", "shift loop, amounts of any size"},
     {"dot", "DOT loop"},
     {"raster", "rasterization loop, 640 by 480"},
     {"moves", "READ and WRITE of a whole screen"},
@@ -107,6 +109,32 @@ static void recp(int small, int large)
     rrr(AND, 1, 1, 2);
     jump(JNE, 0);
     rri(LI, 7, 7, 2);
+    jump(JMP, 0);
+}
+
+/* Over and over, 512 turns of: read a word and an amount, take all six shifts,
+ * sum up. Of amounts of any size a half is below 64. */
+static void shifts(int is_long)
+{
+    for (int k = 512; k < WORDS; k++) {
+        uint32_t small = (uint32_t)between(0, is_long ? 63 : 31);
+        first_memory[k] = is_long && between(0, 1) ? (uint32_t)next() : small;
+    }
+    start.registers[2] = 511;
+    start.registers[7] = 1;
+    rri(LD, 4, 1, 0);
+    rri(LD, 5, 1, 512);
+    rrr(LSL, 6, 4, 5);
+    rri(ASRI, 6, 6, 3);
+    rrr(LSR, 8, 4, 5);
+    rri(LSLI, 8, 8, is_long ? 33 : 1);
+    rrr(ASR, 9, 6, 5);
+    rri(LSRI, 9, 9, 2);
+    rrr(ADD, 10, 10, 8);
+    rrr(XOR, 10, 10, 9);
+    rrr(ADD, 1, 1, 7);
+    rrr(AND, 1, 1, 2);
+    jump(JNE, 0);
     jump(JMP, 0);
 }
 
@@ -216,6 +244,10 @@ void prepare(const char *name)
         recp(0, 1);
     } else if (!strcmp(name, "recp-mixed")) {
         recp(1, 1);
+    } else if (!strcmp(name, "shifts")) {
+        shifts(0);
+    } else if (!strcmp(name, "shifts-long")) {
+        shifts(1);
     } else if (!strcmp(name, "dot")) {
         dot();
     } else if (!strcmp(name, "raster")) {
