@@ -118,7 +118,8 @@ fn word_of(statement: &Statement, names: &HashMap<String, Name>) -> Result<u32, 
         (Form::Rrr, [r1, r2, r3]) => Ok(rrr(number, register(r1)?, register(r2)?, register(r3)?)),
         (Form::Rr, [r1, r2]) => Ok(rrr(number, register(r1)?, register(r2)?, 0)),
         (Form::Rri, [r1, r2, imm]) => {
-            Ok(rri(number, register(r1)?, register(r2)?, fitting(imm, names, -(1 << 15), (1 << 16) - 1)?))
+            // All of this form read imm as unsigned.
+            Ok(rri(number, register(r1)?, register(r2)?, fitting(imm, names, 0, (1 << 16) - 1)?))
         }
         (Form::Ra, [r1, at]) | (Form::Ar, [at, r1]) => {
             let (r2, imm) = address(at, names)?;
@@ -275,7 +276,8 @@ mod tests {
             ("ADD R1, R2, R32", "112: the instruction has other operands: ADD r1, r2, r3 (t.s, line 1)"),
             ("ADDX R1", "111: there is no such instruction: ADDX (t.s, line 1)"),
             ("LI R1, 32768", "113: the number does not fit: 32768 is outside -32768..32767 (t.s, line 1)"),
-            ("LSLI R1, R2, 65536", "113: the number does not fit: 65536 is outside -32768..65535 (t.s, line 1)"),
+            ("LSLI R1, R2, 65536", "113: the number does not fit: 65536 is outside 0..65535 (t.s, line 1)"),
+            ("ASRI R1, R2, -1", "113: the number does not fit: -1 is outside 0..65535 (t.s, line 1)"),
             (".word 4294967296", "113: the number does not fit: 4294967296 is outside 0..4294967295 (t.s, line 1)"),
             (
                 ".word -2147483649",
