@@ -40,9 +40,9 @@
 #include <stdint.h>
 
 #define MERIKOHIN_VERSION_MAJOR 0
-#define MERIKOHIN_VERSION_MINOR 3
-#define MERIKOHIN_VERSION_PATCH 1
-#define MERIKOHIN_VERSION "0.3.1"
+#define MERIKOHIN_VERSION_MINOR 4
+#define MERIKOHIN_VERSION_PATCH 0
+#define MERIKOHIN_VERSION "0.4.0"
 
 /* The limits. */
 #define MERIKOHIN_PROGRAM_MOST 1024 /* words of a program */
@@ -96,7 +96,9 @@ enum merikohin_halt {
 };
 
 /* The machine's instructions: the opcode is bits 31..26 of a word, r1 25..21,
- * r2 20..16, r3 15..11, imm 15..0. tools/opcodes writes the list. */
+ * r2 20..16, r3 15..11, imm 15..0. docs/INSTRUCTIONS.md says what each does. A
+ * shift takes all of r3, unsigned, or of imm: by 32 or more LSL and LSR give 0,
+ * and ASR gives 0 or -1, by the sign. tools/opcodes writes the list. */
 enum merikohin_opcode {
     MERIKOHIN_LD = 0,
     MERIKOHIN_ST = 1,
