@@ -5,22 +5,22 @@
 use Prim.Native.Nat.{ℕ, suc, _+_, _-_, _*_, _/_, _%_, _^_, _≤_, _<_}
 use mathlib.Core.Path.{_≡_, refl, sym, ap, _∙_}
 use mathlib.Core.Bool.{Bool, true, false}
-use native.Mathlib.Nat.{mod-eq-of-lt, mod-lt, div-add-mod, div-eq-of-lt, lt-of-lt-of-le, lt-of-le-of-lt, mul-assoc, mul-comm, mul-mod-left}
-use native.Mathlib.Nat.{add-mul, mul-add-mod-self-left}
+use native.Mathlib.Nat.{mod-eq-of-lt, mod-lt, div-eq-of-lt, lt-of-lt-of-le, lt-of-le-of-lt, mul-assoc, mul-mod-left}
 use native.Mathlib.Omega.{arith}
 use lib.Dec.{ltb}
 use lib.IntN.{ℤ, pos, negsuc}
-use lib.Pow.{pow-pos, pow-mono, pow-add, shr-le, shr-shr}
+use lib.Pow.{pow-pos, pow-mono, pow-add, split, shr-shr}
 use lib.Arith.{digits-mod}
-use lib.Signed.{shrZ, _<ℤ_}
+use lib.Signed.{mag, mag-shr, shrZ, _<ℤ_}
 use mir.Syntax.{w32}
-use mir.Val.{ofZ}
-use mir.ValLaws.{ofZ-toZ}
-use borrow.Author.Tests.{ltb-true, ltb-false, le-leb, lt-leb, lt-ltb, le-ltb}
+use mir.Val.{ofZ, toZ}
+use mir.ValLaws.{ofZ-toZ, toZ-ofZ, toZ-fits}
+use borrow.Author.Tests.{ltb-true, ltb-false, le-leb, lt-leb}
 use Rattle.ints.specs.Modulo.{mod32}
 use Rattle.ints.specs.Rounding.{RoundsDown}
 use Rattle.ints.proofs.Rounding.{shrZ-rounds-down, rounds-to-one}
 use Rattle.ints.proofs.Laws.{pos-inj}
+use Rattle.ints.proofs.Modulo.{mod32-pos, mod32-mul}
 use Rattle.ints.proofs.Order.{is-pos, is-lt}
 use Rattle.rules.specs.Folds.{choose}
 use Rattle.instructions.specs.Words.{keep32, signed}
@@ -105,26 +105,18 @@ pub record ByPowers (a k l r s : ℕ) : Type 0 where
   pub signed-over : RoundsDown (signed a) (pos (2 ^ k)) (signed s)
 
 -- a number in range is what its word is read as
-in-a-word : (n : ℕ) → n < 2147483648 → n % 4294967296 ≡ n
-in-a-word n h = omega (arith, h)
-
-read-pos : (n : ℕ) → n < 2147483648 → signed (mod32 (pos n)) ≡ pos n
+word-of : (z : ℤ) → mag z < 2147483648 → mod32 z ≡ ofZ w32 z
 unfolding mod32
-read-pos n h = rw (in-a-word n h, lt-ltb n 2147483648 h)
+word-of (pos n) h = omega (arith, h)
+word-of (negsuc n) h = omega (arith, h)
 
-read-negsuc : (n : ℕ) → n < 2147483648 → signed (mod32 (negsuc n)) ≡ negsuc n
-unfolding mod32
-read-negsuc n h =
-    rw (in-a-word n h, le-ltb (4294967295 - n) 2147483648 (omega (arith, h)))
-    (ap negsuc (omega (arith, h)))
-
--- ASR wraps nothing
+-- a quotient of the signed reading is in range, so ASR wraps nothing
 signed-quotient : (a k : ℕ) → a < 4294967296 → signed (shiftedSigned a k) ≡ shrZ (signed a) (2 ^ k)
 unfolding shiftedSigned
 signed-quotient a k l =
-    by-sign (λ z b. signed (mod32 (shrZ z (2 ^ k))) ≡ shrZ z (2 ^ k)) a l
-    (λ n s. read-pos (n / 2 ^ k) (lt-of-le-of-lt (shr-le n k) s))
-    (λ n s. read-negsuc (n / 2 ^ k) (lt-of-le-of-lt (shr-le n k) s))
+    let q = shrZ (signed a) (2 ^ k) in
+    let h : mag q < 2147483648 = lt-of-le-of-lt (mag-shr (signed a) (2 ^ k)) (toZ-fits w32 a (record { fits = l }) .sfits) in
+    ap (toZ w32) (word-of q h) ∙ toZ-ofZ w32 q (record { sfits = h })
 
 -- for every amount: from 32 on this is what is left anyway
 pub by-powers : (a k : ℕ) → a < 4294967296 → ByPowers a k (shiftedLeft a k) (shiftedRight a k) (shiftedSigned a k)
@@ -132,7 +124,7 @@ unfolding shiftedLeft shiftedRight
 by-powers a k l = record {
   word = mod-lt (a * 2 ^ k) (omega arith);
   lost = a * 2 ^ k / 4294967296;
-  times = sym (ap (λ (n : ℕ). n + keep32 (a * 2 ^ k)) (mul-comm (a * 2 ^ k / 4294967296) 4294967296) ∙ div-add-mod (a * 2 ^ k) 4294967296);
+  times = sym (split (a * 2 ^ k) 32);
   over = shrZ-rounds-down (pos a) (2 ^ k) (pow-pos k);
   signed-over = rw (signed-quotient a k l) (shrZ-rounds-down (signed a) (2 ^ k) (pow-pos k));
 }
@@ -144,11 +136,11 @@ by-powers-unique {a} {k} {l} {r} {s} {l′} {r′} {s′} f f′ g g′ =
     let h : pos 0 <ℤ pos (2 ^ k) = is-lt (is-pos 0) (is-pos (2 ^ k)) (omega (arith, pow-pos k)) in (
       sym (digits-mod (g .lost) (g .word)) ∙ ap keep32 (sym (g .times) ∙ g′ .times) ∙ digits-mod (g′ .lost) (g′ .word),
       pos-inj (rounds-to-one h (g .over) (g′ .over)),
-      word-of s f ∙ ap (ofZ w32) (rounds-to-one h (g .signed-over) (g′ .signed-over)) ∙ sym (word-of s′ f′),
+      sym (back s f) ∙ ap (ofZ w32) (rounds-to-one h (g .signed-over) (g′ .signed-over)) ∙ back s′ f′,
     )
   where
-    word-of : (n : ℕ) → n < 4294967296 → n ≡ ofZ w32 (signed n)
-    word-of n f = sym (ofZ-toZ w32 n (record { fits = f }))
+    back : (n : ℕ) → n < 4294967296 → ofZ w32 (signed n) ≡ n
+    back n f = ofZ-toZ w32 n (record { fits = f })
 
 -- two shifts in turn are one, by the sum of their amounts
 pub lsl-add : (a j k : ℕ) → shiftedLeft (shiftedLeft a j) k ≡ shiftedLeft a (j + k)
@@ -157,11 +149,7 @@ lsl-add a j k =
     kept (a * 2 ^ j) (2 ^ k) ∙ ap keep32 (mul-assoc a (2 ^ j) (2 ^ k)) ∙ ap (λ (p : ℕ). keep32 (a * p)) (sym (pow-add 2 j k))
   where
     kept : (n p : ℕ) → keep32 (keep32 n * p) ≡ keep32 (n * p)
-    kept n p =
-        let e : 4294967296 * (n / 4294967296) + n % 4294967296 ≡ n = div-add-mod n 4294967296 in
-        sym (ap (λ (i : ℕ). keep32 (i * p)) (sym e) ∙ ap keep32 (add-mul (4294967296 * (n / 4294967296)) (n % 4294967296) p)
-        ∙ ap (λ (i : ℕ). keep32 (i + n % 4294967296 * p)) (mul-assoc 4294967296 (n / 4294967296) p)
-        ∙ mul-add-mod-self-left 4294967296 (n / 4294967296 * p) (n % 4294967296 * p))
+    kept n p = ap (λ (m : ℕ). keep32 (m * p)) (sym (mod32-pos n)) ∙ sym (mod32-mul (pos n) p) ∙ mod32-pos (n * p)
 
 pub lsr-add : (a j k : ℕ) → shiftedRight (shiftedRight a j) k ≡ shiftedRight a (j + k)
 unfolding shiftedRight
