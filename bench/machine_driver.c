@@ -33,6 +33,12 @@ const struct named workloads[] = {
     {"recp-mixed", "RECP loop, operands of both kinds"},
     {"shifts", "shift loop, amounts below 32"},
     {"shifts-long", "shift loop, amounts of any size"},
+    {"LSL", "LSL alone"},
+    {"LSR", "LSR alone"},
+    {"ASR", "ASR alone"},
+    {"LSLI", "LSLI alone"},
+    {"LSRI", "LSRI alone"},
+    {"ASRI", "ASRI alone"},
     {"dot", "DOT loop"},
     {"raster", "rasterization loop, 640 by 480"},
     {"moves", "READ and WRITE of a whole screen"},
@@ -135,6 +141,19 @@ static void shifts(int is_long)
     rrr(ADD, 1, 1, 7);
     rrr(AND, 1, 1, 2);
     jump(JNE, 0);
+    jump(JMP, 0);
+}
+
+/* Over and over, 1,023 times one shift by 5, and a JMP. */
+static void shift_alone(enum opcode op)
+{
+    start.registers[1] = 0x87654321;
+    start.registers[2] = 5;
+    while (program_len < WORDS - 1)
+        if (op < LSLI)
+            rrr(op, 3, 1, 2);
+        else
+            rri(op, 3, 1, 5);
     jump(JMP, 0);
 }
 
@@ -248,6 +267,18 @@ void prepare(const char *name)
         shifts(0);
     } else if (!strcmp(name, "shifts-long")) {
         shifts(1);
+    } else if (!strcmp(name, "LSL")) {
+        shift_alone(LSL);
+    } else if (!strcmp(name, "LSR")) {
+        shift_alone(LSR);
+    } else if (!strcmp(name, "ASR")) {
+        shift_alone(ASR);
+    } else if (!strcmp(name, "LSLI")) {
+        shift_alone(LSLI);
+    } else if (!strcmp(name, "LSRI")) {
+        shift_alone(LSRI);
+    } else if (!strcmp(name, "ASRI")) {
+        shift_alone(ASRI);
     } else if (!strcmp(name, "dot")) {
         dot();
     } else if (!strcmp(name, "raster")) {
