@@ -17,7 +17,9 @@ SHARED := target/shared/libmerikohin.so.$(VERSION)
 CARGO := cd rust && MERIKOHIN_LIB_DIR=$$PWD/../$(NATIVE) CARGO_HOME=$$PWD/../target/cargo cargo
 SOURCES := $(shell find crates -name '*.rt' -o -name '*.antt') $(wildcard include/*.h bridge/*)
 
-all: target/picture.png target/edge.png target/half-pixel.png $(if $(filter x86_64,$(MACHINE)),$(SHARED))
+PICTURES := target/picture.png target/edge.png target/half-pixel.png target/panel-0.png target/panel-48.png
+
+all: $(PICTURES) $(if $(filter x86_64,$(MACHINE)),$(SHARED))
 
 $(NATIVE)/libmerikohin.a: $(SOURCES)
 	$(RT) staticlib merikohin
@@ -41,6 +43,9 @@ target/edge.png: command
 
 target/half-pixel.png: command
 	target/rust/release/picture --half-pixel >$@
+
+target/panel-%.png: command
+	target/rust/release/merikohin panel examples/sounds/snick.wav --per-column 4 --offset $* -o $@
 
 demo:
 	tools/demonstration

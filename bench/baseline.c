@@ -1,9 +1,11 @@
-/* The C baselines of drawing and of planes: the engine's rules, written the
- * usual way. The triangle's bounding box is clipped to the screen and each pixel
- * of it is tested by three edge values. There are two: "per pixel" works these
- * out anew at each pixel, as the rules state them and in 64 bits, where no bound
- * on them need be known; "stepped" keeps them up by addition, in 32 bits. They
- * differ in nothing else. Planes are worked out in one way. */
+/* The C baselines of drawing, of planes and of panels: the engine's rules,
+ * written the usual way. The triangle's bounding box is clipped to the screen and
+ * each pixel of it is tested by three edge values. There are two: "per pixel"
+ * works these out anew at each pixel, as the rules state them and in 64 bits,
+ * where no bound on them need be known; "stepped" keeps them up by addition, in
+ * 32 bits. They differ in nothing else. Planes are worked out in one way. A
+ * panel's bars are drawn in two: as the engine's two triangles, each by
+ * "stepped", and by a plain fill of their pixels. */
 #include "baseline.h"
 #include "sample.h"
 
@@ -207,4 +209,90 @@ merikohin_through NAME(plane_through)(merikohin_vertices v, merikohin_values r)
     if (!fits(c) || !fits(a) || !fits(b))
         return (merikohin_through){9, {0, 0, 0}};
     return (merikohin_through){0, {(int32_t)c, (int32_t)a, (int32_t)b}};
+}
+
+/* The number that a panel answers. */
+static uint32_t panel_number(size_t ram_len, merikohin_screen s, size_t samples_len, int32_t per_column, int32_t offset)
+{
+    if (ram_len > MERIKOHIN_RAM_MOST)
+        return 3;
+    if (!sound(ram_len, s))
+        return 5;
+    if (samples_len > MERIKOHIN_SAMPLES_MOST || per_column < 1 || per_column > MERIKOHIN_PER_COLUMN_MOST ||
+        offset < MERIKOHIN_OFFSET_LEAST || offset > MERIKOHIN_OFFSET_MOST)
+        return 10;
+    return 0;
+}
+
+static int32_t row_of(int32_t v, int32_t height)
+{
+    return (32767 - v) * height / 65536;
+}
+
+/* First and last row of a column's bar. */
+struct bar {
+    int32_t top, bottom;
+};
+
+/* Answers 0 where the column, whose first sample has this number, has none. */
+static int find_bar(const int16_t *samples, int32_t count, int32_t first, int32_t per_column, int32_t height, struct bar *bar)
+{
+    int32_t from = most(0, first), to = least(count, first + per_column);
+    if (from >= to)
+        return 0;
+    int16_t largest = samples[from], smallest = samples[from];
+    for (int32_t k = from + 1; k < to; k++) {
+        largest = samples[k] > largest ? samples[k] : largest;
+        smallest = samples[k] < smallest ? samples[k] : smallest;
+    }
+    bar->top = row_of(largest, height);
+    bar->bottom = row_of(smallest, height);
+    return 1;
+}
+
+static merikohin_plane flat(uint32_t value)
+{
+    return (merikohin_plane){(int32_t)(value << 16), 0, 0};
+}
+
+merikohin_panelled NAME(panel_stepped)(uint8_t *ram, size_t ram_len, merikohin_screen s, const int16_t *samples,
+                                       size_t samples_len, int32_t per_column, int32_t offset, uint16_t colour)
+{
+    merikohin_panelled answer = {panel_number(ram_len, s, samples_len, per_column, offset), 0};
+    if (answer.number != 0)
+        return answer;
+    int32_t width = (int32_t)(s.size_number / 512) * 16, height = (int32_t)(s.size_number % 512);
+    merikohin_triangle t = {.depth = flat(0), .red = flat(colour >> 11), .green = flat(colour >> 5 & 63), .blue = flat(colour & 31)};
+    for (int32_t x = 0; x < width; x++) {
+        struct bar bar;
+        if (!find_bar(samples, (int32_t)samples_len, x * per_column + offset, per_column, height, &bar))
+            continue;
+        int32_t left = 8 * x, right = 8 * x + 8, top = 8 * bar.top, bottom = 8 * bar.bottom + 8;
+        t.vertices = (merikohin_vertices){left, top, right, top, right, bottom};
+        answer.pixels += NAME(stepped)(ram, ram_len, s, t).covered;
+        t.vertices = (merikohin_vertices){right, bottom, left, bottom, left, top};
+        answer.pixels += NAME(stepped)(ram, ram_len, s, t).covered;
+    }
+    return answer;
+}
+
+merikohin_panelled NAME(panel_filled)(uint8_t *ram, size_t ram_len, merikohin_screen s, const int16_t *samples,
+                                      size_t samples_len, int32_t per_column, int32_t offset, uint16_t colour)
+{
+    merikohin_panelled answer = {panel_number(ram_len, s, samples_len, per_column, offset), 0};
+    if (answer.number != 0)
+        return answer;
+    int32_t width = (int32_t)(s.size_number / 512) * 16, height = (int32_t)(s.size_number % 512);
+    for (int32_t x = 0; x < width; x++) {
+        struct bar bar;
+        if (!find_bar(samples, (int32_t)samples_len, x * per_column + offset, per_column, height, &bar))
+            continue;
+        for (int32_t y = bar.top; y <= bar.bottom; y++) {
+            size_t at = 2 * ((size_t)y * (size_t)width + (size_t)x);
+            put_half(ram + s.colour_start + at, colour);
+            put_half(ram + s.depth_start + at, 0);
+        }
+        answer.pixels += (uint32_t)(bar.bottom - bar.top + 1);
+    }
+    return answer;
 }

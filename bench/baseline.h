@@ -1,6 +1,6 @@
-/* What the C baselines of drawing, planes and machine have in common. Each is
- * compiled once with each C compiler, and its functions get that compiler's name
- * as a prefix (gcc_stepped, clang_run, ...). */
+/* What the C baselines of drawing, planes, panels and machine have in common.
+ * Each is compiled once with each C compiler, and its functions get that
+ * compiler's name as a prefix (gcc_stepped, clang_run, ...). */
 #ifndef BASELINE_H
 #define BASELINE_H
 

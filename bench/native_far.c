@@ -32,6 +32,13 @@ void native_plane_through(const void *vertices, const void *values, void *throug
         merikohin_plane_through(*(const merikohin_vertices *)vertices, *(const merikohin_values *)values);
 }
 
+void native_panel(const struct native_panel *panel, const void *screen, void *panelled)
+{
+    *(merikohin_panelled *)panelled =
+        merikohin_panel(panel->ram, panel->ram_len, *(const merikohin_screen *)screen, panel->samples, panel->samples_len,
+                        panel->per_column, panel->offset, (uint16_t)panel->colour);
+}
+
 void native_fresh(void *state)
 {
     merikohin_fresh(state);

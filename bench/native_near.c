@@ -23,6 +23,15 @@ merikohin_through merikohin_plane_through(merikohin_vertices v, merikohin_values
     return through;
 }
 
+merikohin_panelled merikohin_panel(uint8_t *ram, size_t ram_len, merikohin_screen s, const int16_t *samples, size_t samples_len,
+                                   int32_t per_column, int32_t offset, uint16_t colour)
+{
+    const struct native_panel panel = {ram, ram_len, samples, samples_len, per_column, offset, colour};
+    merikohin_panelled panelled;
+    native_panel(&panel, &s, &panelled);
+    return panelled;
+}
+
 merikohin_state merikohin_fresh(void)
 {
     merikohin_state state;

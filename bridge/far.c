@@ -48,6 +48,10 @@ static void answer(struct request *r)
     case PLANE_THROUGH:
         r->through = merikohin_plane_through(r->vertices, r->values);
         break;
+    case PANEL:
+        r->panelled = merikohin_panel(ram, r->ram_len, r->screen, (int16_t *)(area + SAMPLES), r->samples_len, r->per_column,
+                                      r->offset, r->colour);
+        break;
     case ROW_CHECK:
         r->number = merikohin_row_check(ram, r->ram_len, r->screen, r->row);
         break;

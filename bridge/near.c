@@ -106,6 +106,22 @@ merikohin_through merikohin_plane_through(merikohin_vertices v, merikohin_values
     return request->through;
 }
 
+/* The samples are only read; that they stay is checked here. */
+merikohin_panelled merikohin_panel(uint8_t *ram, size_t ram_len, merikohin_screen s, const int16_t *samples, size_t samples_len,
+                                   int32_t per_column, int32_t offset, uint16_t colour)
+{
+    lend(ram, ram_len);
+    must(samples_len <= (MEMORY - SAMPLES) / 2, "samples too many to hand over");
+    request->screen = s, request->samples_len = samples_len;
+    request->per_column = per_column, request->offset = offset, request->colour = colour;
+    if (samples_len > 0)
+        memcpy(part(SAMPLES), samples, 2 * samples_len);
+    hand_over(PANEL);
+    must(samples_len == 0 || memcmp(part(SAMPLES), samples, 2 * samples_len) == 0, "a panel changed the samples");
+    take_back(ram, ram_len);
+    return request->panelled;
+}
+
 /* The RAM of the three row calls is only read; that it stays is checked here. */
 static void row_call(uint32_t call, const uint8_t *ram, size_t ram_len, merikohin_screen s, uint32_t row)
 {

@@ -1,14 +1,14 @@
 /* merikohin.h - the C interface of the Merikohin graphics engine.
  *
- * The engine draws triangles on a screen that lies in memory lent to it for
- * the length of one call, and runs programs of a machine of 41 instructions
- * that shares such screens. It keeps nothing between calls, allocates nothing
+ * The engine draws triangles and waveforms on a screen that lies in memory lent
+ * to it for the length of one call, and runs programs of a machine of 41
+ * instructions that shares such screens. It keeps nothing between calls, allocates nothing
  * and touches no byte outside the lent memory.
  *
  * Memory. RAM is the ram_len bytes at ram, at any address. Words and half-words
  * in it are big-endian. Programs and data memory are words of this machine, in
- * its own byte order, aligned as uint32_t is. Where a length is 0 the pointer
- * may be NULL. What one call is lent does not overlap. Apart from lending the
+ * its own byte order, aligned as uint32_t is, and samples likewise as int16_t.
+ * Where a length is 0 the pointer may be NULL. What one call is lent does not overlap. Apart from lending the
  * memory, nothing is asked of the caller: every value of every argument is
  * allowed and gets its answer.
  *
@@ -40,9 +40,9 @@
 #include <stdint.h>
 
 #define MERIKOHIN_VERSION_MAJOR 0
-#define MERIKOHIN_VERSION_MINOR 4
+#define MERIKOHIN_VERSION_MINOR 5
 #define MERIKOHIN_VERSION_PATCH 0
-#define MERIKOHIN_VERSION "0.4.0"
+#define MERIKOHIN_VERSION "0.5.0"
 
 /* The limits. */
 #define MERIKOHIN_PROGRAM_MOST 1024 /* words of a program */
@@ -55,6 +55,10 @@
 #define MERIKOHIN_VERTEX_MOST 8191 /* eighths of a pixel */
 #define MERIKOHIN_VALUE_MOST 32767 /* a value at a vertex, from 0 */
 #define MERIKOHIN_REGISTERS 32
+#define MERIKOHIN_SAMPLES_MOST 40960  /* samples of a recording */
+#define MERIKOHIN_PER_COLUMN_MOST 64  /* samples a column, from 1 */
+#define MERIKOHIN_OFFSET_LEAST (-2048)
+#define MERIKOHIN_OFFSET_MOST 2047 /* samples */
 
 /* The size number of a screen: its width a multiple of 16 from 16 to 640, its
  * height from 1 to 480. Of anything else it is 0, which no screen has and every
@@ -79,7 +83,8 @@ enum merikohin_number {
     MERIKOHIN_VERTEX_OUT_OF_RANGE = 6,
     MERIKOHIN_EDGE_OUT_OF_RANGE = 7,
     MERIKOHIN_ROW_OUT_OF_RANGE = 8,
-    MERIKOHIN_NO_PLANE = 9
+    MERIKOHIN_NO_PLANE = 9,
+    MERIKOHIN_NO_PANEL = 10
 };
 
 /* The halt numbers of a state. merikohin_halt_says has a sentence for each.
@@ -197,6 +202,11 @@ typedef struct merikohin_drawn {
     uint32_t number, covered, written;
 } merikohin_drawn;
 
+/* The answer to a panel: its number, and how many pixels it drew. */
+typedef struct merikohin_panelled {
+    uint32_t number, pixels;
+} merikohin_panelled;
+
 /* The answer to a row or a depth row: its number, and where the row's own bytes
  * lie: they are ram[start .. start + length), a part of the lent memory and no
  * copy. Four bytes of padding follow the number. */
@@ -276,6 +286,21 @@ merikohin_drawn merikohin_draw(uint8_t *ram, size_t ram_len, merikohin_screen s,
 MERIKOHIN_MUST_USE
 merikohin_through merikohin_plane_through(merikohin_vertices v, merikohin_values r);
 
+/* Draws a waveform panel: column x of the screen shows the samples numbered
+ * x * per_column + offset to x * per_column + offset + per_column - 1 of the
+ * recording, which are counted from 0, leaving out those that do not exist. A
+ * column with none stays as it was. In any other the rows from that of the
+ * largest sample to that of the smallest get the colour and depth 0, where v
+ * stands at row (32767 - v) * height / 65536, rounded down; all other bytes of
+ * RAM stay as they were, so clear first where the ground is to be clear. The
+ * samples are only read, and aligned as int16_t is. Answers 0 with how many
+ * pixels were drawn, or 3 (RAM too long), 5 (screen not sound) or 10 (more than
+ * 40,960 samples, per_column outside 1 to 64 or offset outside -2048 to 2047)
+ * with a count of 0. */
+MERIKOHIN_MUST_USE
+merikohin_panelled merikohin_panel(uint8_t *ram, size_t ram_len, merikohin_screen s, const int16_t *samples,
+                                   size_t samples_len, int32_t per_column, int32_t offset, uint16_t colour);
+
 /* Tells whether a row can be read: answers 0 if merikohin_row would hand the
  * row back, or 3 (RAM too long), 5 (screen not sound) or 8 (row not below the
  * height), always the number that merikohin_row and merikohin_depth_row answer
@@ -340,6 +365,8 @@ static inline const char *merikohin_says(uint32_t number)
     case MERIKOHIN_ROW_OUT_OF_RANGE: return "the row is not below the height";
     case MERIKOHIN_NO_PLANE:
         return "a value is outside 0..32767, the doubled area is not positive, or c, a or b is outside signed 32 bits";
+    case MERIKOHIN_NO_PANEL:
+        return "there are more than 40,960 samples, the samples a column are outside 1..64, or the offset is outside -2048..2047";
     default: return "no call answers this number";
     }
 }
@@ -408,6 +435,9 @@ MERIKOHIN_ASSERT(sizeof(merikohin_drawn) == 12)
 MERIKOHIN_HAS(merikohin_drawn, number, 0)
 MERIKOHIN_HAS(merikohin_drawn, covered, 4)
 MERIKOHIN_HAS(merikohin_drawn, written, 8)
+MERIKOHIN_ASSERT(sizeof(merikohin_panelled) == 8)
+MERIKOHIN_HAS(merikohin_panelled, number, 0)
+MERIKOHIN_HAS(merikohin_panelled, pixels, 4)
 MERIKOHIN_ASSERT(sizeof(merikohin_row_part) == 24)
 MERIKOHIN_HAS(merikohin_row_part, number, 0)
 MERIKOHIN_HAS(merikohin_row_part, start, 8)

@@ -1,6 +1,6 @@
 /* What merikohin.h says and the library does, by C11 and by C++: constants, size
  * numbers, sentences, NULL with length 0, any address, the sample point, planes
- * through values, fields without meaning, single steps.
+ * through values, waveform panels, fields without meaning, single steps.
  * The status is 0 where all holds; else each line that failed is printed.
  */
 #include "merikohin.h"
@@ -38,6 +38,9 @@ static void constants(void)
     HOLDS(MERIKOHIN_SIZE(-16, 4) == 0);
     HOLDS(MERIKOHIN_SIZE(16u, (uint8_t)4) == 516);
     HOLDS(MERIKOHIN_TREEPUT == 40);
+    HOLDS(MERIKOHIN_SAMPLES_MOST == 40960 && MERIKOHIN_PER_COLUMN_MOST == 64);
+    HOLDS(MERIKOHIN_OFFSET_LEAST == -2048 && MERIKOHIN_OFFSET_MOST == 2047);
+    HOLDS(MERIKOHIN_NO_PANEL == 10);
     char version[16];
     snprintf(version, sizeof version, "%d.%d.%d", MERIKOHIN_VERSION_MAJOR, MERIKOHIN_VERSION_MINOR, MERIKOHIN_VERSION_PATCH);
     HOLDS(strcmp(version, MERIKOHIN_VERSION) == 0);
@@ -60,6 +63,8 @@ static void nothing_lent(void)
     const merikohin_screen s = screen_of(0, 128, MERIKOHIN_SIZE(16, 4));
     HOLDS(merikohin_clear(NULL, 0, s, 0, 0) == MERIKOHIN_SCREEN_NOT_SOUND);
     HOLDS(merikohin_draw(NULL, 0, s, t).number == MERIKOHIN_SCREEN_NOT_SOUND);
+    const merikohin_panelled panel = merikohin_panel(NULL, 0, s, NULL, 0, 1, 0, 0);
+    HOLDS(panel.number == MERIKOHIN_SCREEN_NOT_SOUND && panel.pixels == 0);
     HOLDS(merikohin_row_check(NULL, 0, s, 0) == MERIKOHIN_SCREEN_NOT_SOUND);
     HOLDS(merikohin_row(NULL, 0, s, 0).number == MERIKOHIN_SCREEN_NOT_SOUND);
     HOLDS(merikohin_depth_row(NULL, 0, s, 0).number == MERIKOHIN_SCREEN_NOT_SOUND);
@@ -189,6 +194,88 @@ static void no_plane(void)
     HOLDS(none(through(-8192, -8192, -8192, 8191, 8191, -8192, 1, 1, 1), MERIKOHIN_NO_PLANE));
 }
 
+/* A RAM with one byte more than may be lent, and a recording with one sample more; a screen of 16 by 4 has its areas from byte 2 on. */
+static uint8_t ram_too_long[MERIKOHIN_RAM_MOST + 1];
+static int16_t too_many[MERIKOHIN_SAMPLES_MOST + 1];
+
+static merikohin_panelled panel_of(size_t count, int32_t per_column, int32_t offset)
+{
+    memset(ram_too_long, 7, 262);
+    return merikohin_panel(ram_too_long, 262, screen_of(2, 130, MERIKOHIN_SIZE(16, 4)), too_many, count, per_column, offset, 0x1234);
+}
+
+/* What was drawn last: a line for each row, and 0 where a byte is neither drawn nor as it was. */
+static int draws(merikohin_panelled p, uint32_t pixels, const char *picture)
+{
+    int holds = p.number == MERIKOHIN_DONE && p.pixels == pixels;
+    for (int at = 0; at < 2 * 64; at += 2) {
+        const int set = picture[at / 2] == '#';
+        const uint8_t *colour = ram_too_long + 2 + at, *depth = ram_too_long + 130 + at;
+        holds &= colour[0] == (set ? 0x12 : 7) && colour[1] == (set ? 0x34 : 7);
+        holds &= depth[0] == (set ? 0 : 7) && depth[1] == (set ? 0 : 7);
+    }
+    return holds && ram_too_long[0] == 7 && ram_too_long[1] == 7 && ram_too_long[258] == 7 && ram_too_long[261] == 7;
+}
+
+/* A refusal has its number and no pixel, and leaves every byte. */
+static int refused(merikohin_panelled p, uint32_t number)
+{
+    int holds = p.number == number && p.pixels == 0;
+    for (int at = 0; at < 262; at++)
+        holds &= ram_too_long[at] == 7;
+    return holds;
+}
+
+/* Panels worked out by hand: both ends of each of four rows; bars; an offset to either side, with columns that have a part of
+ * their samples; a recording that is empty, or NULL, or out of sight. */
+static void panels(void)
+{
+    static const int16_t rows[] = {32767, 16384, 16383, 0, -1, -16384, -16385, -32768};
+    const char *nothing = "................" "................" "................" "................";
+    memcpy(too_many, rows, sizeof rows);
+    HOLDS(draws(panel_of(8, 1, 0), 8, "##.............." "..##............" "....##.........." "......##........"));
+    HOLDS(draws(panel_of(8, 2, 0), 4, "#..............." ".#.............." "..#............." "...#............"));
+    HOLDS(draws(panel_of(7, 3, 0), 5, "#..............." "##.............." ".#.............." "..#............."));
+    HOLDS(draws(panel_of(7, 3, -5), 5, ".##............." "..#............." "...#............" "...#............"));
+    HOLDS(draws(panel_of(8, 3, 2), 4, "................" "#..............." "##.............." ".#.............."));
+    HOLDS(draws(panel_of(8, 64, -63), 5, "##.............." ".#.............." ".#.............." ".#.............."));
+    HOLDS(draws(panel_of(8, 1, 8), 0, nothing) && draws(panel_of(8, 1, -16), 0, nothing));
+    HOLDS(draws(panel_of(8, 1, 7), 1, "................" "................" "................" "#..............."));
+    HOLDS(draws(panel_of(8, 1, -15), 1, "...............#" "................" "................" "................"));
+    HOLDS(draws(panel_of(0, 1, 0), 0, nothing));
+
+    const merikohin_screen s = screen_of(2, 130, MERIKOHIN_SIZE(16, 4));
+    HOLDS(draws(merikohin_panel(ram_too_long, 262, s, NULL, 0, 64, 2047, 0x1234), 0, nothing));
+    HOLDS(memcmp(too_many, rows, sizeof rows) == 0);
+    memset(too_many, 0, sizeof rows);
+}
+
+/* Both sides of the sample count, of the samples a column and of the offset, and both ends of 32 bits; of several faults at once the
+ * lower number. */
+static void no_panel(void)
+{
+    const char *silence = "................" "################" "................" "................";
+    HOLDS(draws(panel_of(MERIKOHIN_SAMPLES_MOST, MERIKOHIN_PER_COLUMN_MOST, MERIKOHIN_OFFSET_MOST), 16, silence));
+    HOLDS(draws(panel_of(MERIKOHIN_SAMPLES_MOST, 1, 0), 16, silence));
+    HOLDS(panel_of(2048, 64, MERIKOHIN_OFFSET_LEAST).number == MERIKOHIN_DONE);
+    HOLDS(refused(panel_of(MERIKOHIN_SAMPLES_MOST + 1, 1, 0), MERIKOHIN_NO_PANEL));
+    const int32_t far_n[] = {0, 65, -1, INT32_MIN, INT32_MAX}, far_d[] = {-2049, 2048, -65536, INT32_MIN, INT32_MAX};
+    const merikohin_screen good = screen_of(2, 130, MERIKOHIN_SIZE(16, 4)), odd = screen_of(1, 130, MERIKOHIN_SIZE(16, 4));
+    for (int k = 0; k < 5; k++) {
+        HOLDS(refused(panel_of(100, far_n[k], 0), MERIKOHIN_NO_PANEL));
+        HOLDS(refused(panel_of(0, far_n[k], 0), MERIKOHIN_NO_PANEL));
+        HOLDS(refused(panel_of(100, 1, far_d[k]), MERIKOHIN_NO_PANEL));
+        HOLDS(refused(panel_of(MERIKOHIN_SAMPLES_MOST + 1, far_n[k], far_d[k]), MERIKOHIN_NO_PANEL));
+        HOLDS(refused(merikohin_panel(ram_too_long, 262, odd, too_many, 100, far_n[k], far_d[k], 1), MERIKOHIN_SCREEN_NOT_SOUND));
+        HOLDS(refused(merikohin_panel(ram_too_long, 257, good, too_many, 100, far_n[k], 0, 1), MERIKOHIN_SCREEN_NOT_SOUND));
+        HOLDS(refused(merikohin_panel(ram_too_long, sizeof ram_too_long, odd, too_many, MERIKOHIN_SAMPLES_MOST + 1, far_n[k], 0, 1),
+                      MERIKOHIN_RAM_TOO_LONG));
+    }
+    HOLDS(refused(merikohin_panel(ram_too_long, sizeof ram_too_long, good, too_many, 100, 1, 0, 1), MERIKOHIN_RAM_TOO_LONG));
+    HOLDS(refused(merikohin_panel(ram_too_long, 262, odd, too_many, 100, 1, 0, 1), MERIKOHIN_SCREEN_NOT_SOUND));
+    HOLDS(draws(merikohin_panel(ram_too_long, MERIKOHIN_RAM_MOST, good, too_many, 100, 1, 0, 0x1234), 16, silence));
+}
+
 /* A fresh state has 0 in every field; a run leaves what was there in those that mean nothing,
  * but for yes and no, which become 1 and 0. */
 static void without_meaning(void)
@@ -239,15 +326,17 @@ static void steps(void)
 
 int main(void)
 {
-    const uint32_t numbers[] = {0, 1, 2, 3, 4, 5, 6, 7, 8, 9}, halts[] = {0, 11, 12, 13, 14, 15, 16, 17};
+    const uint32_t numbers[] = {0, 1, 2, 3, 4, 5, 6, 7, 8, 9, 10}, halts[] = {0, 11, 12, 13, 14, 15, 16, 17};
     constants();
-    sentences(merikohin_says, numbers, 10);
+    sentences(merikohin_says, numbers, 11);
     sentences(merikohin_halt_says, halts, 8);
     nothing_lent();
     any_address();
     sampled_at_the_centre();
     planes_through_values();
     no_plane();
+    panels();
+    no_panel();
     without_meaning();
     steps();
     return failed;

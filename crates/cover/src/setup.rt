@@ -13,7 +13,7 @@ ghost use Rattle.edges.specs.Edges.{edgeFrom, edgeInRange};
 ghost use Rattle.cover.specs.Side.{loss, risingValue, down, SideOf, SidesOf};
 
 // What an edge's value loses where its zeros are outside.
-fn loss(dx: i64, dy: i64) -> i64
+pub fn loss(dx: i64, dy: i64) -> i64
     ensures { λ r. ⌜ r ≡ loss dx dy ⌝ }
 {
     if 0 < dy {

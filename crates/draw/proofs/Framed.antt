@@ -1,9 +1,9 @@
 -- The loop over the rows: what holds before row y, that rows with nothing inside may be skipped, and that one row more keeps it.
-use Prim.Native.Nat.{ℕ, zero, suc, _+_, _≤_, _<_}
+use Prim.Native.Nat.{ℕ, zero, suc, _+_, _-_, _≤_, _<_}
 use mathlib.Core.Path.{_≡_, refl, sym, _∙_, ap, subst}
 use mathlib.Core.Bool.{false}
 use mathlib.Core.List.{List}
-use native.Mathlib.Nat.{add-zero}
+use native.Mathlib.Nat.{add-zero, zero-add}
 use native.Mathlib.Omega.{arith}
 use lib.ListN.{length}
 use Rattle.rules.specs.declared.Screen.{Screen}
@@ -16,7 +16,8 @@ use Rattle.rules.proofs.Pixels.{Sound, width-le, height-le}
 use Rattle.rules.proofs.Drawing.{length-rows, written-rows}
 use Rattle.rows.specs.Lines.{Line, line, coveredIn, writtenIn, drawnIn, Drawing, drawing}
 use Rattle.rows.specs.Rows.{Room, RowDone}
-use Rattle.draw.specs.Frames.{FrameDone}
+use Rattle.cover.specs.declared.Span.{Span}
+use Rattle.draw.specs.Frames.{RowsTouched, FrameDone}
 use Rattle.rows.proofs.Stretch.{not-written, pixel-still}
 use Rattle.rows.proofs.Rowed.{outside-uncovered}
 
@@ -45,7 +46,7 @@ still-row l d h out =
     }
 
 module _ {m₀ : List ℕ} {s : Screen} {t : Triangle} where
-  pub down-none : Down m₀ s t (undrawn m₀) 0
+  down-none : Down m₀ s t (undrawn m₀) 0
   unfolding pixels
   down-none = record { before-end = omega arith; is-memory = sym (upto-none (rowDrawn t s) m₀); is-covered = refl; is-written = refl }
 
@@ -84,7 +85,7 @@ module _ {m₀ : List ℕ} {s : Screen} {t : Triangle} where
           }
 
   module _ (q : Sound (length m₀) s) {d : Drawing} {y : ℕ} (u : Down m₀ s t d y) where
-    pub down-skip : (n : ℕ) → y + n ≤ height (s .size)
+    down-skip : (n : ℕ) → y + n ≤ height (s .size)
         → ((x j : ℕ) → y ≤ j → j < y + n → insideAll (t .vertices) (sample x j) ≡ false)
         → Down m₀ s t d (y + n)
     down-skip zero h out = rw (add-zero y) u
@@ -94,6 +95,23 @@ module _ {m₀ : List ℕ} {s : Screen} {t : Triangle} where
         subst (Down m₀ s t d) i
         (down-more v q (omega arith) (still-row (line s t (y + n)) d (omega arith) (λ x. out x (y + n) (omega arith) (omega arith))))
 
-  pub down-last : {d : Drawing} → Down m₀ s t d (height (s .size)) → FrameDone m₀ s t d
+  down-last : {d : Drawing} → Down m₀ s t d (height (s .size)) → FrameDone m₀ s t d
   unfolding drawn
   down-last u = record { covers = u .is-covered; writes = u .is-written; leaves = u .is-memory }
+
+-- from the first touched row on, and past the last one
+module _ {m₀ : List ℕ} {s : Screen} {t : Triangle} (q : Sound (length m₀) s) {r : Span}
+    (u : RowsTouched (t .vertices) (height (s .size)) r) where
+  pub down-first : Down m₀ s t (undrawn m₀) (r .from)
+  down-first =
+      subst (Down m₀ s t (undrawn m₀)) (zero-add (r .from))
+      (down-skip q down-none (r .from)
+      (omega (arith, u .ordered, u .limited))
+      (λ x j h k. u .before x j (omega (arith, u .ordered, u .limited)) (omega arith)))
+
+  pub down-past : {d : Drawing} {y : ℕ} → Down m₀ s t d y → r .to ≤ y → FrameDone m₀ s t d
+  down-past {d} {y} v h =
+      let n = height (s .size) in
+      let e : y + (n - y) ≡ n = omega (arith, v .before-end) in
+      down-last
+      (subst (Down m₀ s t d) e (down-skip q v (n - y) (omega arith) (λ x j k l. u .beyond x j (omega arith) (omega arith))))

@@ -2,3 +2,4 @@
 pub mod Touch
 pub mod Refused
 pub mod Framed
+pub mod Lone

@@ -8,6 +8,7 @@ use lib.ListN.{length}
 use native.Mathlib.Omega.{arith}
 use Rattle.rules.specs.declared.Screen.{Screen}
 use Rattle.rules.specs.declared.Triangle.{Triangle}
+use Rattle.rules.specs.declared.Drawn.{Drawn}
 use Rattle.rules.specs.Folds.{choose}
 use Rattle.rules.specs.Sizes.{width, height}
 use Rattle.rules.specs.Numbers.{screenNumber, triangleNumber, verticesInRange, triangleTooLarge}
@@ -16,7 +17,7 @@ use Rattle.rules.specs.Calls.{Draws}
 use Rattle.rules.proofs.Choices.{accepted-no, accepted-yes}
 use Rattle.rules.proofs.Refusals.{ScreenPasses, screen-passed, screen-refuses, others-follow, screen-number-passed}
 use Rattle.rows.specs.Lines.{Drawing}
-use Rattle.draw.specs.Frames.{FrameAsked, FrameDone}
+use Rattle.draw.specs.Frames.{FrameAsked, FrameDone, Answers}
 
 module _ (n : ℕ) (s : Screen) (t : Triangle) where
   abbrev pub others : ℕ
@@ -57,12 +58,12 @@ module _ (m : List ℕ) (s : Screen) (t : Triangle) where
         leaves = sym (accepted-no N (drawn t s m) m r);
       }
 
-  pub done-draws : triangleNumber (length m) s t ≡ 0 → {after : Drawing} → FrameDone m s t after
-      → Draws m s t (record { number = 0; covered = after .counts .covered; written = after .counts .written }) (after .ram)
-  done-draws e d =
+  pub done-draws : triangleNumber (length m) s t ≡ 0 → {after : Drawing} {r : Drawn} → FrameDone m s t after → Answers (after .counts) r
+      → Draws m s t r (after .ram)
+  done-draws e d a =
       record {
-        answers = sym e;
-        covers = d .covers ∙ sym (accepted-yes N (coveredPixels t s) 0 e);
-        writes = d .writes ∙ sym (accepted-yes N (writtenPixels t s m) 0 e);
+        answers = a .accepts ∙ sym e;
+        covers = a .covers ∙ d .covers ∙ sym (accepted-yes N (coveredPixels t s) 0 e);
+        writes = a .writes ∙ d .writes ∙ sym (accepted-yes N (writtenPixels t s m) 0 e);
         leaves = d .leaves ∙ sym (accepted-yes N (drawn t s m) m e);
       }

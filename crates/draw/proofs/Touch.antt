@@ -1,6 +1,7 @@
--- Rows whose sample points lie before or beyond all three vertices hold nothing inside.
+-- Rows and columns whose sample points lie before or beyond all three vertices hold nothing inside.
 use Prim.Native.Nat.{ℕ, _+_, _*_}
-use mathlib.Core.Path.{_≡_, _∙_, ap, subst}
+use mathlib.Core.Path.{_≡_, _∙_, ap, subst, subst₂}
+use mathlib.Core.Logic.{_⊎_, inl, inr}
 use mathlib.Core.Bool.{true, false}
 use native.Mathlib.Omega.{arith}
 use lib.IntN.{ℤ, pos}
@@ -13,17 +14,21 @@ use Rattle.rules.specs.declared.Vertices.{Vertices}
 use Rattle.rules.specs.Triangles.{sampleOffset, sample, insideAll}
 use Rattle.rules.specs.Numbers.{vertexInRange}
 use Rattle.extent.specs.Extent.{Before, Beyond}
+use Rattle.cover.specs.declared.Span.{Span}
+use Rattle.draw.specs.Frames.{Touched}
 use Rattle.edges.proofs.Within.{vertex-within}
-use Rattle.extent.proofs.Outside.{above, below}
+use Rattle.extent.proofs.Outside.{above, below, left-of, right-of}
 
 module _ (t : Vertices) (x y : ℕ) where
-  pub row-before : Before (t .y1) (t .y2) (t .y3) y → insideAll t (sample x y) ≡ false
+  pub row-missed : Before (t .y1) (t .y2) (t .y3) y ⊎ Beyond (t .y1) (t .y2) (t .y3) y → insideAll t (sample x y) ≡ false
   unfolding sample
-  row-before b = above t (sample x y) (b .first) (b .second) (b .third)
+  row-missed (inl b) = above t (sample x y) (b .first) (b .second) (b .third)
+  row-missed (inr b) = below t (sample x y) (b .first) (b .second) (b .third)
 
-  pub row-beyond : Beyond (t .y1) (t .y2) (t .y3) y → insideAll t (sample x y) ≡ false
+  pub column-missed : Before (t .x1) (t .x2) (t .x3) x ⊎ Beyond (t .x1) (t .x2) (t .x3) x → insideAll t (sample x y) ≡ false
   unfolding sample
-  row-beyond b = below t (sample x y) (b .first) (b .second) (b .third)
+  column-missed (inl b) = left-of t (sample x y) (b .first) (b .second) (b .third)
+  column-missed (inr b) = right-of t (sample x y) (b .first) (b .second) (b .third)
 
 -- three numbers, read back from the machine's words
 
@@ -49,3 +54,9 @@ module _ (a b c : ℤ) (ha : vertexInRange a ≡ true) (hb : vertexInRange b ≡
         second = subst (λ (z : ℤ). z <ℤ pos (8 * k + sampleOffset)) (read-vertex b hb) (h .second);
         third = subst (λ (z : ℤ). z <ℤ pos (8 * k + sampleOffset)) (read-vertex c hc) (h .third);
       }
+
+module _ (a b c : ℤ) (ha : vertexInRange a ≡ true) (hb : vertexInRange b ≡ true) (hc : vertexInRange c ≡ true) {n : ℕ} {r : Span} where
+  pub read-touched : Touched (toZ w32 (ofZ w32 a)) (toZ w32 (ofZ w32 b)) (toZ w32 (ofZ w32 c)) n r → Touched a b c n r
+  read-touched h =
+      subst (λ z. Touched z b c n r) (read-vertex a ha)
+      (subst₂ (λ y z. Touched (toZ w32 (ofZ w32 a)) y z n r) (read-vertex b hb) (read-vertex c hc) h)

@@ -14,7 +14,7 @@ ghost use lib.ListN.{length};
 ghost use Rattle.rows.specs.Lines.{drawing};
 ghost use Rattle.draw.specs.Frames.{FrameAsked, FrameDone};
 
-// The rows that the triangle can touch. It answers how many pixels were covered and how many written.
+// The rows that the triangle can touch, each by its span. It answers how many pixels were covered and how many written.
 pub fn frame(ram: &mut [u8], s: Screen, t: Triangle) -> Counts
     requires { ⌜ FrameAsked (length (now ram)) s t ⌝ }
     ensures { λ r. ⌜ FrameDone (now (ram .entry)) s t (drawing (now (ram .exit)) r) ⌝ }

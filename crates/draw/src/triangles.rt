@@ -1,7 +1,10 @@
 // The call that draws a triangle.
 use crate::frames::frame;
+use crate::narrow::narrow;
+use crate::touched::lone_column;
 use edges::ranges::triangle_too_large;
 use edges::ranges::vertices_in_range;
+use rows::Counts;
 use rules::Drawn;
 use rules::Screen;
 use rules::Triangle;
@@ -11,6 +14,7 @@ use screen::sizes::width;
 ghost use mathlib.Core.Path.{_≡_};
 ghost use Rattle.rules.specs.Numbers.{triangleNumber};
 ghost use Rattle.rules.specs.Calls.{Draws};
+ghost use Rattle.draw.specs.Frames.{Answers};
 
 // The number that drawing this triangle answers.
 fn triangle_number(len: usize, s: Screen, t: Triangle) -> u32
@@ -30,6 +34,16 @@ fn triangle_number(len: usize, s: Screen, t: Triangle) -> u32
     0
 }
 
+fn answered(c: Counts) -> Drawn
+    ensures { λ r. ⌜ Answers c r ⌝ }
+{
+    Drawn {
+        number: 0,
+        covered: c.covered,
+        written: c.written,
+    }
+}
+
 // Draws a triangle, or refuses it with its number and changes nothing.
 pub fn draw(ram: &mut [u8], s: Screen, t: Triangle) -> Drawn
     ensures { λ r. ⌜ Draws (now (ram .entry)) s t r (now (ram .exit)) ⌝ }
@@ -42,10 +56,10 @@ pub fn draw(ram: &mut [u8], s: Screen, t: Triangle) -> Drawn
             written: 0,
         };
     }
-    let c = frame(ram, s, t);
-    Drawn {
-        number: 0,
-        covered: c.covered,
-        written: c.written,
+    let w = width(s.size);
+    let x = lone_column(t.vertices, w);
+    if w <= x {
+        return answered(frame(ram, s, t));
     }
+    answered(narrow(ram, s, t, x))
 }

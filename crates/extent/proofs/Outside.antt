@@ -1,5 +1,6 @@
--- A pixel that lies above all three vertices, or below all of them, is not inside all three edges: the edge values would be
--- non-negative weights whose sum with three positive distances is 0, so all are 0, and no three edges that close keep their zeros.
+-- A pixel that lies above all three vertices, below, to the left or to the right of all of them, is not inside all three edges: the edge
+-- values would be non-negative weights whose sum with three positive distances is 0, so all are 0, and no three edges that close keep
+-- their zeros.
 use mathlib.Core.Path.{_≡_, refl}
 use mathlib.Core.List.{List, [], _∷_}
 use mathlib.Core.Bool.{Bool, true, false}
@@ -29,7 +30,7 @@ module _ (v : Vertices) where
         go true h = absurd (unweighed h)
         go false h = refl
 
--- the two sides
+-- the four sides
 
 abbrev edgeE : Exp → Exp → Exp → Exp → Exp
 edgeE a b c d = (var 7 ⊖ b) ⊗ (c ⊖ a) ⊖ (var 6 ⊖ a) ⊗ (d ⊖ b)
@@ -59,3 +60,15 @@ module _ (v : Vertices) (p : Point) where
   below h1 h2 h3 =
       refused v p (p .py -ℤ v .y1) (p .py -ℤ v .y2) (p .py -ℤ v .y3) (apart h1) (apart h2) (apart h3)
       (solve ρ₈ (weighed (var 7 ⊖ var 1) (var 7 ⊖ var 3) (var 7 ⊖ var 5)) (con (pos 0)) tt)
+
+  pub left-of : p .px <ℤ v .x1 → p .px <ℤ v .x2 → p .px <ℤ v .x3 → insideAll v p ≡ false
+  unfolding edgeValue
+  left-of h1 h2 h3 =
+      refused v p (v .x1 -ℤ p .px) (v .x2 -ℤ p .px) (v .x3 -ℤ p .px) (apart h1) (apart h2) (apart h3)
+      (solve ρ₈ (weighed (var 0 ⊖ var 6) (var 2 ⊖ var 6) (var 4 ⊖ var 6)) (con (pos 0)) tt)
+
+  pub right-of : v .x1 <ℤ p .px → v .x2 <ℤ p .px → v .x3 <ℤ p .px → insideAll v p ≡ false
+  unfolding edgeValue
+  right-of h1 h2 h3 =
+      refused v p (p .px -ℤ v .x1) (p .px -ℤ v .x2) (p .px -ℤ v .x3) (apart h1) (apart h2) (apart h3)
+      (solve ρ₈ (weighed (var 6 ⊖ var 0) (var 6 ⊖ var 2) (var 6 ⊖ var 4)) (con (pos 0)) tt)

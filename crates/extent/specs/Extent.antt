@@ -1,4 +1,4 @@
--- Rows whose sample points lie before or beyond three vertex numbers, in eighths of a pixel.
+-- Rows or columns whose sample points lie before or beyond three vertex numbers, in eighths of a pixel.
 use Prim.Native.Nat.{ℕ, _+_, _*_}
 use lib.IntN.{ℤ, pos}
 use lib.Signed.{_<ℤ_}

@@ -1,4 +1,4 @@
-// Which rows a triangle can touch: those whose sample points lie between its vertices.
+// Which rows, or columns, a triangle can touch: those whose sample points lie between its vertices.
 use edges::values::SAMPLE_OFFSET;
 ghost use mathlib.Core.Path.{_≡_};
 ghost use mathlib.Core.Bool.{true};
@@ -48,7 +48,7 @@ fn greatest(a: u32, b: u32, c: u32) -> u32
     c
 }
 
-// All rows before this one have their sample points before the three numbers.
+// All rows, or columns, before this one have their sample points before the three numbers.
 pub fn first_touched(a: i32, b: i32, c: i32) -> u32
     requires { ⌜ (vertexInRange a ≡ true) × (vertexInRange b ≡ true) × (vertexInRange c ≡ true) ⌝ }
     ensures { λ r. ⌜ ((k : ℕ) → k < r → Before a b c k) ⌝ }
@@ -62,12 +62,12 @@ pub fn first_touched(a: i32, b: i32, c: i32) -> u32
     (low - 8192) / 8
 }
 
-// This row and all after it have their sample points beyond the three numbers.
+// This one and all after it have their sample points beyond the three numbers.
 pub fn past_touched(a: i32, b: i32, c: i32) -> u32
     requires { ⌜ (vertexInRange a ≡ true) × (vertexInRange b ≡ true) × (vertexInRange c ≡ true) ⌝ }
     ensures { λ r. ⌜ ((k : ℕ) → r ≤ k → Beyond a b c k) ⌝ }
 {
-    // a number between two sample points counts as the earlier one, whose row is the last before this
+    // a number between two sample points counts as the earlier one, whose place is the last before this
     let by = 8200 - SAMPLE_OFFSET;
     let high = greatest(raised(a, by), raised(b, by), raised(c, by));
     if high < 8192 {

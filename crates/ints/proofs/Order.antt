@@ -216,7 +216,7 @@ pub lt-leZ : (a b : ℤ) → b <ℤ a → leZ a b ≡ false
 lt-leZ a b h = opposite b a ∙ ap not (lt-ltZ b a h)
 
 -- a sign is a comparison with 0
-nonNeg-is : (z : ℤ) → nonNeg z ≡ leZ (pos 0) z
+pub nonNeg-is : (z : ℤ) → nonNeg z ≡ leZ (pos 0) z
 nonNeg-is (pos n) = sym (le-leb 0 n (omega arith))
 nonNeg-is (negsuc n) = refl
 
@@ -234,6 +234,37 @@ lt-nonNeg z h = nonNeg-is z ∙ lt-leZ (pos 0) z h
 
 pub pos-le : {m n : ℕ} → m ≤ n → pos m ≤ℤ pos n
 pos-le {m} {n} h = leZ-yes (le→leb m n h)
+
+pub pos-lt : {m n : ℕ} → m < n → pos m <ℤ pos n
+pos-lt {m} {n} h = ltZ-yes (lt→ltb m n h)
+
+-- a test of two sums with one term in common
+pub leZ-shifted : (a b c : ℤ) → leZ (a +ℤ c) (b +ℤ c) ≡ leZ a b
+leZ-shifted a b c = go (leZ a b) refl
+  where
+    ρ : List ℤ
+    ρ = a ∷ b ∷ c ∷ []
+
+    go : (t : Bool) → leZ a b ≡ t → leZ (a +ℤ c) (b +ℤ c) ≡ t
+    go true e =
+        le-leZ (a +ℤ c) (b +ℤ c)
+        (le-of ρ (var 0 ⊕ var 2) (var 1 ⊕ var 2) (omega (arith, le-to ρ (var 0) (var 1) (leZ-true a b e))))
+    go false e =
+        lt-leZ (a +ℤ c) (b +ℤ c)
+        (lt-of ρ (var 1 ⊕ var 2) (var 0 ⊕ var 2) (omega (arith, lt-to ρ (var 1) (var 0) (leZ-false a b e))))
+
+-- up to f - 1 is before f
+pub leZ-before : (i f : ℤ) → leZ i (f -ℤ pos 1) ≡ not (leZ f i)
+leZ-before i f = go (leZ f i) refl
+  where
+    ρ : List ℤ
+    ρ = i ∷ f ∷ []
+
+    go : (t : Bool) → leZ f i ≡ t → leZ i (f -ℤ pos 1) ≡ not t
+    go true e =
+        lt-leZ i (f -ℤ pos 1) (lt-of ρ (var 1 ⊖ con (pos 1)) (var 0) (omega (arith, le-to ρ (var 1) (var 0) (leZ-true f i e))))
+    go false e =
+        le-leZ i (f -ℤ pos 1) (le-of ρ (var 0) (var 1 ⊖ con (pos 1)) (omega (arith, lt-to ρ (var 0) (var 1) (leZ-false f i e))))
 
 -- the orders' laws
 module _ {a b c : ℤ} where

@@ -12,10 +12,12 @@ use rules::Drawn;
 use rules::Screen;
 use rules::Triangle;
 use rules::Vertices;
+use waveform::Panelled;
 ghost use lib.ListN.{length};
 ghost use Rattle.rules.specs.Sizes.{colourAt, depthAt, pixel};
 ghost use Rattle.rules.specs.Calls.{Clears, Draws};
 ghost use Rattle.interpolation.specs.Interpolation.{PassesThrough};
+ghost use Rattle.waveform.specs.Panel.{Panels, waveform};
 ghost use Rattle.reader.specs.Rows.{Checks, Locates};
 ghost use Rattle.lends.specs.Lends.{Lends, RunsLent, StepsLent, lent, runOutcome, stepOutcome};
 
@@ -38,6 +40,20 @@ pub extern "C" fn merikohin_plane_through(v: Vertices, r: Values) -> Through
     ensures { λ t. ⌜ PassesThrough v r t ⌝ }
 {
     through::plane_through(v, r)
+}
+
+#[no_mangle]
+pub extern "C" fn merikohin_panel(
+    ram: &mut [u8],
+    s: Screen,
+    samples: &[i16],
+    n: i32,
+    d: i32,
+    colour: u16,
+) -> Panelled
+    ensures { λ r. ⌜ Panels (now (ram .entry)) s (waveform (now (samples .entry)) n d colour) r (now (ram .exit)) ⌝ }
+{
+    panel::panel(ram, s, samples, n, d, colour)
 }
 
 #[no_mangle]

@@ -12,10 +12,10 @@ use Rattle.rules.specs.declared.Triangle.{Triangle}
 use Rattle.rules.specs.declared.Drawn.{Drawn}
 use Rattle.rules.specs.Folds.{choose}
 use Rattle.rules.specs.Sizes.{sound, Pixel}
-use Rattle.rules.specs.Triangles.{written, trianglePixel, drawn}
+use Rattle.rules.specs.Triangles.{written, trianglePixel, drawn, coveredPixels, writtenPixels}
 use Rattle.rules.specs.Numbers.{verticesInRange, screenNumber, triangleNumber}
 use Rattle.rules.specs.Calls.{Clears, Draws, accepted, cleared}
-use Rattle.rules.proofs.Choices.{accepted-no}
+use Rattle.rules.proofs.Choices.{accepted-no, accepted-yes}
 use Rattle.order.specs.Pointwise.{Painted}
 use Rattle.order.specs.Lists.{afterList, DrawsAll}
 use Rattle.order.proofs.Numbers.{screen-accepted, triangle-number}
@@ -44,6 +44,12 @@ module _ {m after : List ℕ} {s : Screen} {t : Triangle} {r : Drawn} (d : Draws
       go : Dec (r .number ≡ 0) → length after ≡ length m
       go (yes e) = draw-paints e .same-length
       go (no h) = ap length (draw-refused h)
+
+  pub draw-covers : r .number ≡ 0 → r .covered ≡ coveredPixels t s
+  draw-covers e = d .covers ∙ accepted-yes (triangleNumber (length m) s t) (coveredPixels t s) 0 (sym (d .answers) ∙ e)
+
+  pub draw-writes : r .number ≡ 0 → r .written ≡ writtenPixels t s m
+  draw-writes e = d .writes ∙ accepted-yes (triangleNumber (length m) s t) (writtenPixels t s m) 0 (sym (d .answers) ∙ e)
 
   -- on a screen that a clear accepts, a triangle with its vertices in range is drawn
   pub draw-accepted : screenNumber (length m) s ≡ 0 → verticesInRange (t .vertices) ≡ true → r .number ≡ 0

@@ -1,11 +1,12 @@
 -- "Columns drawn twice where two triangles meet, or not at all": a pixel of the screen that is inside the other four edges of two triangles
 -- with a common edge in opposite directions is covered by exactly one of the two.
 use Prim.Native.Nat.{ℕ}
-use mathlib.Core.Path.{_≡_, refl, sym, _∙_, ap}
-use mathlib.Core.Bool.{Bool, true, false, not, _&&_}
+use mathlib.Core.Path.{_≡_, sym, _∙_, ap}
+use mathlib.Core.Bool.{true, not, _&&_}
 use Rattle.rules.specs.declared.Screen.{Screen}
 use Rattle.rules.specs.declared.Triangle.{Triangle}
 use Rattle.rules.specs.Triangles.{inside, onScreen, sample, covered}
+use Rattle.rules.proofs.Choices.{and-whole}
 use Rattle.order.specs.Sides.{Which, side, insideOthers}
 use Rattle.order.specs.CommonEdge.{InCommon}
 use Rattle.order.proofs.Sides.{inside-from, covered-screen}
@@ -20,11 +21,7 @@ by-one-side t s x y i o h =
     covered-screen t s x y o
     ∙ inside-from t i (sample x y)
     ∙ ap (λ b. inside (side t i) (sample x y) && b) h
-    ∙ whole (inside (side t i) (sample x y))
-  where
-    whole : (b : Bool) → b && true ≡ b
-    whole true = refl
-    whole false = refl
+    ∙ and-whole (inside (side t i) (sample x y))
 
 module _ (a b : Triangle) (i j : Which) (common : InCommon (side a i) (side b j)) where
   pub covered-by-one : (s : Screen) (x y : ℕ)

@@ -1,9 +1,9 @@
 -- A drawn triangle and a clear are what their pixel-by-pixel readings say, and nothing else is: the cells are known from the passes, and
 -- two memories with equal cells and equal bytes elsewhere are equal.
 use Prim.Native.Nat.{ℕ, _+_, _<_}
-use mathlib.Core.Path.{_≡_, refl, sym, _∙_, ap}
+use mathlib.Core.Path.{_≡_, refl, sym, _∙_, ap, subst}
 use mathlib.Core.Logic.{_≢_, inl, inr}
-use mathlib.Core.Bool.{Bool, true, false}
+use mathlib.Core.Bool.{Bool, true, false, _||_}
 use mathlib.Core.List.{List}
 use lib.ListN.{length, getD}
 use Rattle.rules.specs.declared.Screen.{Screen}
@@ -145,3 +145,45 @@ module _ (s : Screen) (m : List ℕ) (h : sound (length m) s ≡ true) where
       → Painted s (λ x y. true) (λ x y. p) m after
       → after ≡ cleared s (p .colour) (p .depth) m
   cleared-unique p after q = painted-unique q (cleared-pointwise p)
+
+-- paintings with one brush, in turn
+
+pub painted-none : (s : Screen) (new : ℕ → ℕ → Pixel) (m : List ℕ) → Painted s (λ x y. false) new m m
+painted-none s new m = from-cells s (λ x y. false) new m m refl (λ x y o. refl) (λ b o. refl)
+
+-- only the pixels of the screen count
+pub painted-same : {s : Screen} {picked also : ℕ → ℕ → Bool} {new : ℕ → ℕ → Pixel} {m after : List ℕ}
+    → ((x y : ℕ) → x < width (s .size) → y < height (s .size) → picked x y ≡ also x y)
+    → Painted s picked new m after
+    → Painted s also new m after
+painted-same e p = record {
+  same-length = p .same-length;
+  painted = λ x y h v t. p .painted x y h v (e x y h v ∙ t);
+  stays = λ x y h v t. p .stays x y h v (e x y h v ∙ t);
+  elsewhere = p .elsewhere;
+}
+
+-- the same pixel, drawn by other words
+pub painted-with : {s : Screen} {picked : ℕ → ℕ → Bool} {new other : ℕ → ℕ → Pixel} {m after : List ℕ}
+    → ((x y : ℕ) → new x y ≡ other x y)
+    → Painted s picked new m after
+    → Painted s picked other m after
+painted-with {s} {picked} {m = m} {after} e p = subst (λ n. Painted s picked n m after) (λ i x y. e x y i) p
+
+pub painted-then : {s : Screen} {first second : ℕ → ℕ → Bool} {new : ℕ → ℕ → Pixel} {m k after : List ℕ}
+    → Painted s first new m k
+    → Painted s second new k after
+    → Painted s (λ x y. first x y || second x y) new m after
+painted-then {s} {first} {second} {new} {m} {k} {after} p q =
+    from-cells s (λ x y. first x y || second x y) new m after
+    (q .same-length ∙ p .same-length)
+    (λ x y o.
+    to-cells s second new k q x y o
+    ∙ ap (choose (second x y) (painted (new x y .colour) (new x y .depth))) (to-cells s first new m p x y o)
+    ∙ twice (painted (new x y .colour) (new x y .depth)) (cell s m x y) (first x y) (second x y))
+    (λ b o. q .elsewhere b (elsewhere o) ∙ p .elsewhere b (elsewhere o))
+  where
+    twice : (c d : Cell) (a b : Bool) → choose b c (choose a c d) ≡ choose (a || b) c d
+    twice c d true true = refl
+    twice c d true false = refl
+    twice c d false b = refl

@@ -17,6 +17,7 @@ use Rattle.rules.specs.declared.Triangle.{Triangle}
 use Rattle.rules.specs.Sizes.{width, height}
 use Rattle.rules.specs.Folds.{bit, pixels}
 use Rattle.rules.specs.Triangles.{Point, Edge, edgeValue, inside, insideAll, onScreen, sample, covered, coveredPixels}
+use Rattle.rules.proofs.Choices.{and-whole}
 use Rattle.rules.proofs.Pixels.{and-l, and-r}
 use Rattle.rules.proofs.Closing.{value-le}
 use Rattle.order.specs.Sides.{side, next, insideOthers, turned}
@@ -254,14 +255,10 @@ module _ (a : Rectangle) (p : Point) where
           i .1,
           i .2,
           i .3,
-          whole (inside risingBack p),
-          whole (inside (turned risingBack) p),
+          and-whole (inside risingBack p),
+          and-whole (inside (turned risingBack) p),
         )
         (exactly-one-side risingBack p (inl (not-level (a .wide))))
-      where
-        whole : (b : Bool) → b && true ≡ b
-        whole true = refl
-        whole false = refl
 
 module _ (a : Rectangle) {t u : Triangle} (split : Split a t u) (s : Screen) where
   module _ (x y : ℕ) where

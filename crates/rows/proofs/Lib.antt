@@ -1,4 +1,6 @@
 -- The laws behind the functions' proofs.
 pub mod Stretch
+pub mod Covered
 pub mod Running
 pub mod Rowed
+pub mod Single

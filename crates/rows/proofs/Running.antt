@@ -2,29 +2,26 @@
 -- it. The word's top bit says whether pixel k is covered; a covered one is written where the code's test of the depth says so, and after
 -- the last one there is none.
 use Prim.Native.Nat.{ℕ, _+_, _*_, _-_, _%_, _^_, _≤_, _<_}
-use mathlib.Core.Path.{_≡_, refl, sym, _∙_, ap, ap₂, subst}
+use mathlib.Core.Path.{_≡_, refl, sym, _∙_, ap, subst}
 use mathlib.Core.Bool.{Bool, true, false}
 use mathlib.Core.List.{List}
 use native.Mathlib.Nat.{add-zero}
 use native.Mathlib.Omega.{arith}
-use lib.Dec.{leb}
 use lib.ListN.{length}
 use Rattle.rules.specs.declared.Screen.{Screen}
-use Rattle.rules.specs.Folds.{bit, howMany, choose}
-use Rattle.ram.specs.Ram.{loadHalf, storeHalf}
-use Rattle.rules.specs.Sizes.{colourAt, depthAt, putPixel}
-use Rattle.rules.specs.Triangles.{triangleDepth, triangleColour, written, pixelDrawn}
+use Rattle.rules.specs.Folds.{bit, howMany}
+use Rattle.rules.specs.Sizes.{colourAt, depthAt}
 use Rattle.rules.proofs.Folds.{upto-none, upto-more, upto-add, upto-still, howMany-none, howMany-more, howMany-add, howMany-le}
 use Rattle.rules.proofs.Strips.{colour-in-area, depth-in-area}
-use Rattle.rules.proofs.Pixels.{Sound, On, sound-facts, width-le, height-le, colour-depth-apart}
-use Rattle.ram.proofs.Halves.{apart-sym, storeHalf-comm}
+use Rattle.rules.proofs.Pixels.{Sound, On, sound-facts}
 use Rattle.masks.proofs.Mask.{Left, left-skip, top-set, top-clear, mask-same}
 use Rattle.cover.proofs.Unbroken.{unbroken}
 use Rattle.planes.specs.declared.Tints.{Tints}
-use Rattle.planes.specs.Planes.{tintsAt, tintSteps, tintsMoved, tintDepth, tintColour}
-use Rattle.planes.proofs.Affine.{tints-right, tint-depth, tint-colour}
+use Rattle.planes.specs.Planes.{tintsAt, tintSteps, tintsMoved}
+use Rattle.planes.proofs.Affine.{tints-right}
 use Rattle.rows.specs.Lines.{Line, coveredIn, writtenIn, drawnIn, Writing}
-use Rattle.rows.specs.Pixels.{passes, PixelDone, chunkAt, chunkFrom, WordAsked, WordDone}
+use Rattle.rows.specs.Pixels.{PixelDone, chunkAt, chunkFrom, WordAsked, WordDone}
+use Rattle.rows.proofs.Covered.{pixel-counts, pixel-leaves}
 use Rattle.rows.proofs.Stretch.{stretch, length-stretch, covered-on, not-written, pixel-still, written-stretch}
 
 -- the half-words of a row stand side by side
@@ -133,50 +130,10 @@ module _ {l : Line} {x wide : ℕ} {w₀ : Writing} (q : WordAsked l x wide w₀
       pub few-written : w .count < 4294967295
       few-written = omega (arith, u .is-written, howMany-le (λ i. writtenIn l (w₀ .ram) (x + i)) k, q .room, some-left)
 
-      across : x + k ≤ 640
-      across = omega (arith, on-screen .across, width-le facts)
-
-      down : l .row ≤ 480
-      down = omega (arith, q .row, height-le facts)
-
-      -- where its half-words stand, and what the triangle has there
-      abbrev colourHere : ℕ
-      colourHere = colourAt (l .screen) (x + k) (l .row)
-
-      abbrev depthHere : ℕ
-      depthHere = depthAt (l .screen) (x + k) (l .row)
-
-      abbrev newColour : ℕ
-      newColour = triangleColour (l .triangle) (x + k) (l .row)
-
-      abbrev newDepth : ℕ
-      newDepth = triangleDepth (l .triangle) (x + k) (l .row)
-
-      depth-is : tintDepth v ≡ newDepth
-      depth-is = ap tintDepth (u .is-tints) ∙ tint-depth (l .triangle) (x + k) (l .row) across down
-
-      colour-is : tintColour v ≡ newColour
-      colour-is = ap tintColour (u .is-tints) ∙ tint-colour (l .triangle) (x + k) (l .row) across down
-
-      judged : passes (w .ram) depthHere v ≡ writtenIn l (w .ram) (x + k)
-      unfolding written
-      judged = rw here (ap (λ (d : ℕ). leb d (loadHalf (w .ram) depthHere)) depth-is)
-
-      -- the two half-words have no byte in common, so their order is free
-      put-is : (p : Bool)
-          → choose p (storeHalf (storeHalf (w .ram) depthHere (tintDepth v)) colourHere (tintColour v)) (w .ram)
-          ≡ choose p (putPixel (l .screen) (x + k) (l .row) newColour newDepth (w .ram)) (w .ram)
-      unfolding putPixel
-      put-is p =
-          ap₂ (λ (d c : ℕ). choose p (storeHalf (storeHalf (w .ram) depthHere d) colourHere c) (w .ram)) depth-is colour-is
-          ∙ ap (λ (n : List ℕ). choose p n (w .ram))
-          (storeHalf-comm (w .ram) depthHere newDepth colourHere newColour (apart-sym (colour-depth-apart facts on-screen on-screen)))
-
       pub pass-more : {w′ : Writing} {v′ : Tints}
-          → PixelDone colourHere depthHere v w w′
+          → PixelDone (colourAt (l .screen) (x + k) (l .row)) (depthAt (l .screen) (x + k) (l .row)) v w w′
           → v′ ≡ tintsMoved v (tintSteps (l .triangle))
           → Pass l x w₀ w′ (next (k + 1) v′ (on * 2 % 2 ^ 64))
-      unfolding pixelDrawn
       pass-more d e =
           let t = l .triangle in
           let i : x + k + 1 ≡ x + (k + 1) = omega arith in
@@ -195,16 +152,18 @@ module _ {l : Line} {x wide : ℕ} {w₀ : Writing} (q : WordAsked l x wide w₀
                 ∙ tints-right t (x + k) (l .row)
                 ∙ ap (λ (n : ℕ). tintsAt t n (l .row)) i;
             is-memory =
-                d .leaves
-                ∙ put-is (passes (w .ram) depthHere v)
-                ∙ ap (λ (p : Bool). choose p (putPixel (l .screen) (x + k) (l .row) newColour newDepth (w .ram)) (w .ram)) judged
+                pixel-leaves l (x + k) facts here (u .is-tints) d
                 ∙ ap (drawnIn l (x + k)) (u .is-memory)
                 ∙ sym (upto-more (λ j. drawnIn l (x + j)) k (w₀ .ram));
             is-written =
-                let b : bit (passes (w .ram) depthHere v) ≡ bit (writtenIn l (w₀ .ram) (x + k)) =
+                let b : bit (writtenIn l (w .ram) (x + k)) ≡ bit (writtenIn l (w₀ .ram) (x + k)) =
                 ap bit
-                (judged
-                ∙ ap (λ (n : List ℕ). writtenIn l n (x + k)) (u .is-memory)
+                (ap (λ (n : List ℕ). writtenIn l n (x + k)) (u .is-memory)
                 ∙ written-stretch l facts (w₀ .ram) refl x k k on-screen (omega arith)) in
-                omega (arith, d .counts, u .is-written, howMany-more (λ j. writtenIn l (w₀ .ram) (x + j)) k);
+                omega (
+                  arith,
+                  pixel-counts l (x + k) facts here (u .is-tints) d,
+                  u .is-written,
+                  howMany-more (λ j. writtenIn l (w₀ .ram) (x + j)) k,
+                );
           }

@@ -1,7 +1,8 @@
 -- What drawing a chunk and a row promises.
 use Prim.Native.Nat.{ℕ, _+_, _≤_, _<_}
 use mathlib.Core.Path.{_≡_}
-use mathlib.Core.Bool.{true, false}
+use mathlib.Core.Logic.{_≢_}
+use mathlib.Core.Bool.{Bool, true, false}
 use lib.ListN.{length}
 use Rattle.rules.specs.Folds.{upto, howMany}
 use Rattle.rules.specs.Sizes.{width, height, sound}
@@ -40,6 +41,15 @@ pub record RowAsked (l : Line) (columns : Span) (before : Drawing) : Type 0 wher
   pub ordered : columns .from ≤ columns .to
   pub limited : columns .to ≤ width (l .screen .size)
   pub spans : (x : ℕ) → x < width (l .screen .size) → coveredIn l x ≡ inSpan (columns .from) (columns .to) x
+  pub room : Room (before .counts) 1024
+
+-- of the row pixel x alone can be covered, and is where `on` says so
+pub record LoneAsked (l : Line) (x : ℕ) (on : Bool) (before : Drawing) : Type 0 where
+  pub is-sound : sound (length (before .ram)) (l .screen) ≡ true
+  pub row : l .row < height (l .screen .size)
+  pub across : x < width (l .screen .size)
+  pub here : coveredIn l x ≡ on
+  pub others : (k : ℕ) → k < width (l .screen .size) → k ≢ x → coveredIn l k ≡ false
   pub room : Room (before .counts) 1024
 
 pub record RowDone (l : Line) (before after : Drawing) : Type 0 where

@@ -1,5 +1,6 @@
-// Drawing a row of a triangle in lent memory: pixel, chunk, row.
+// Drawing a row of a triangle in lent memory: pixel, chunk, row, and a row of one column.
 pub mod chunks;
+pub mod lone;
 pub mod pixels;
 
 // How many pixels were covered and how many written.

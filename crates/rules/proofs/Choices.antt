@@ -48,3 +48,7 @@ pub not-positive : (z : ℤ) → leZ z (pos 0) ≡ not (positive z)
 not-positive (pos zero) = refl
 not-positive (pos (suc n)) = lt-leb (suc n) 0 (omega arith)
 not-positive (negsuc n) = refl
+
+pub and-whole : (b : Bool) → b && true ≡ b
+and-whole true = refl
+and-whole false = refl

@@ -1,7 +1,7 @@
 -- The beginning that the drawing's numbers share, 3, then 5, then a call's others, taken apart once.
 use Prim.Native.Nat.{ℕ}
 use mathlib.Core.Path.{_≡_, refl}
-use mathlib.Core.Logic.{_≢_}
+use mathlib.Core.Logic.{_≢_, _⊎_, inl, inr}
 use mathlib.Core.Bool.{Bool, true, false, not}
 use native.Mathlib.Omega.{arith}
 use Rattle.rules.specs.declared.Screen.{Screen}
@@ -39,3 +39,16 @@ module _ (n : ℕ) (s : Screen) (others : ℕ) where
 pub screen-number-passed : {n : ℕ} {s : Screen} → screenNumber n s ≡ 0 → ScreenPasses n s
 unfolding screenNumber
 screen-number-passed {n} {s} h = screen-passed n s 0 h .0
+
+-- it is 0, 3 or 5
+pub screen-numbers : (n : ℕ) (s : Screen) → (screenNumber n s ≡ 0) ⊎ (screenNumber n s ≡ 3) ⊎ (screenNumber n s ≡ 5)
+unfolding screenNumber
+screen-numbers n s = go (tooLong n) (sound n s)
+  where
+    number : Bool → Bool → ℕ
+    number a b = choose a 3 (choose (not b) 5 0)
+
+    go : (a b : Bool) → (number a b ≡ 0) ⊎ (number a b ≡ 3) ⊎ (number a b ≡ 5)
+    go true b = inr (inl refl)
+    go false true = inl refl
+    go false false = inr (inr refl)

@@ -1,3 +1,4 @@
 pub mod Hold
 pub mod Worked
 pub mod Planes
+pub mod Panels

@@ -5,3 +5,4 @@ pub mod Table
 pub mod WorkedDrawing
 pub mod WorkedMachine
 pub mod WorkedPlanes
+pub mod WorkedPanels

@@ -132,16 +132,22 @@ pub fn second_triangle(t: &Triangle) -> second::Triangle {
 // Text form.
 // ---------------------------------------------------------------------------
 
+impl fmt::Display for Fill {
+    fn fmt(&self, f: &mut fmt::Formatter<'_>) -> fmt::Result {
+        match self {
+            Fill::Random(seed) => write!(f, "random:{seed}"),
+            Fill::Byte(byte) => write!(f, "byte:{byte}"),
+        }
+    }
+}
+
 impl fmt::Display for Case {
     fn fmt(&self, f: &mut fmt::Formatter<'_>) -> fmt::Result {
         write!(f, "ram={}", self.ram)?;
         if self.lead != 0 {
             write!(f, " lead={}", self.lead)?;
         }
-        match self.fill {
-            Fill::Random(seed) => write!(f, " fill=random:{seed}")?,
-            Fill::Byte(byte) => write!(f, " fill=byte:{byte}")?,
-        }
+        write!(f, " fill={}", self.fill)?;
         for step in &self.steps {
             let s = step.screen;
             write!(f, "; screen={},{},{} ", s.colour_start, s.depth_start, s.size_number)?;

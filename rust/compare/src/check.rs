@@ -2,8 +2,9 @@
 //! its own, and compares number, counts, row part and every byte after every
 //! call.
 
-use crate::case::{second_screen, second_triangle, Call, Case, Step};
+use crate::case::{second_screen, second_triangle, Call, Case, Fill, Step};
 use crate::subject::{second_row, RowSeen, Subject};
+use merikohin::Screen;
 
 /// Bytes kept on both sides of the subject's RAM; they must never change.
 const GUARD: usize = 256;
@@ -34,7 +35,7 @@ pub struct Checked {
 #[derive(Default)]
 pub struct Memories {
     subject: Vec<u8>,
-    second: Vec<u8>,
+    pub second: Vec<u8>,
     place: std::ops::Range<usize>,
 }
 
@@ -44,11 +45,17 @@ impl Memories {
         &self.subject[self.place.clone()]
     }
 
-    fn prepare(&mut self, case: &Case) {
-        self.second.resize(case.ram, 0);
-        case.fill.apply(&mut self.second);
-        let start = GUARD + case.lead;
-        let end = start + case.ram;
+    /// The same to write to.
+    pub fn subject_ram_lent(&mut self) -> &mut [u8] {
+        &mut self.subject[self.place.clone()]
+    }
+
+    /// Two RAMs this long, with the same bytes.
+    pub fn prepare(&mut self, ram: usize, lead: usize, fill: Fill) {
+        self.second.resize(ram, 0);
+        fill.apply(&mut self.second);
+        let start = GUARD + lead;
+        let end = start + ram;
         self.place = start..end;
         self.subject.resize(end + GUARD, 0);
         self.subject[..start].fill(GUARD_BYTE);
@@ -60,28 +67,33 @@ impl Memories {
         let kept = |bytes: &[u8]| bytes.iter().all(|&byte| byte == GUARD_BYTE);
         kept(&self.subject[..self.place.start]) && kept(&self.subject[self.place.end..])
     }
+
+    /// In words how the subject's bytes differ from the second program's; empty
+    /// if they do not.
+    pub fn difference(&self, name: &str, screen: Screen) -> String {
+        let mut text = String::new();
+        if self.subject_ram() != self.second {
+            text += &bytes_in_words(name, screen, self.subject_ram(), &self.second);
+        }
+        if !self.guards_kept() {
+            text += &format!("  {name} changed a byte outside the RAM it was lent\n");
+        }
+        text
+    }
 }
 
 pub fn check(subject: Subject, case: &Case, memories: &mut Memories) -> Checked {
-    memories.prepare(case);
+    memories.prepare(case.ram, case.lead, case.fill);
     let mut answers = Vec::with_capacity(case.steps.len());
     for (place, step) in case.steps.iter().enumerate() {
         let expected = second_answer(step, &mut memories.second);
-        let ram = &mut memories.subject[memories.place.clone()];
-        let seen = subject_answer(subject, step, ram);
+        let seen = subject_answer(subject, step, memories.subject_ram_lent());
         answers.push(seen);
 
         let name = subject.name();
-        let same_bytes = memories.subject_ram() == memories.second;
-        let guards_kept = memories.guards_kept();
-        if seen != expected || !same_bytes || !guards_kept {
-            let mut text = format!("  {name}: {}\n  second: {}\n", in_words(&seen), in_words(&expected));
-            if !same_bytes {
-                text += &bytes_in_words(name, step, memories.subject_ram(), &memories.second);
-            }
-            if !guards_kept {
-                text += &format!("  {name} changed a byte outside the RAM it was lent\n");
-            }
+        let bytes = memories.difference(name, step.screen);
+        if seen != expected || !bytes.is_empty() {
+            let text = format!("  {name}: {}\n  second: {}\n{bytes}", in_words(&seen), in_words(&expected));
             return Checked { answers, difference: Some(Difference { step: place, text }) };
         }
     }
@@ -134,14 +146,14 @@ fn in_words(answer: &Answer) -> String {
     }
 }
 
-fn bytes_in_words(name: &str, step: &Step, subject: &[u8], second: &[u8]) -> String {
+fn bytes_in_words(name: &str, lent: Screen, subject: &[u8], second: &[u8]) -> String {
     let different: Vec<usize> = (0..second.len()).filter(|&at| subject[at] != second[at]).collect();
     let at = different[0];
-    let screen = second_screen(step.screen);
+    let screen = second_screen(lent);
     let mut what = "outside the screen";
     let mut pixel = String::new();
     if second::sound(second.len(), screen) {
-        for (area, start) in [("colour", step.screen.colour_start), ("depth", step.screen.depth_start)] {
+        for (area, start) in [("colour", lent.colour_start), ("depth", lent.depth_start)] {
             let into = at as i128 - i128::from(start);
             if into >= 0 && into < screen.area_bytes() {
                 what = area;

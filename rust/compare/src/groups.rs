@@ -27,6 +27,7 @@ pub fn all(run: &mut Run) {
     run.group("half a pixel, moved by a whole", half_pixel::moved_by_a_whole);
     run.group("both sides of a sample point", half_pixel::both_sides);
     run.group("points, lines and slivers", slivers);
+    run.group("triangles of one column", one_column);
     run.group("far vertices", far);
     run.group("largest edge values", largest_edges);
     run.group("long edges", long_edges);
@@ -669,6 +670,177 @@ fn slivers(run: &mut Run, rng: &mut Rng) {
             run.case(&Case::one(ram, Fill::Random(rng.next()), screen, Call::Draw(t)));
         }
     }
+}
+
+/// The columns of a screen this wide that are sampled from `left` to `right`,
+/// both included.
+fn columns_within(width: i32, (left, right): (i32, i32)) -> std::ops::Range<i32> {
+    let first = (left - sample(0) + 7).div_euclid(8).max(0);
+    let last = (right - sample(0)).div_euclid(8).min(width - 1);
+    first..last + 1
+}
+
+/// From the left to the right of a triangle. First those of 1 to 18 eighths, at
+/// every phase within a pixel: up to 7 they hold one column at most, and from 16
+/// on two at least, whether or not one on the right side itself is counted. Then
+/// those that reach far beyond the screen and hold one column of it, or none, or
+/// two: the columns are what counts, not the width.
+fn widths_of_one_column(width: i32) -> Vec<(i32, i32)> {
+    let mut found = Vec::new();
+    for column in [-2, -1, 0, 7, width - 2, width - 1] {
+        for phase in 0..8 {
+            found.extend((1..=18).map(|wide| (8 * column + phase, 8 * column + phase + wide)));
+        }
+    }
+    for off in [-1, 0, 1, 7, 8, 9] {
+        for far in [8192, 700, 19] {
+            found.push((-far, sample(0) + off));
+            found.push((sample(width - 1) - off, 8 * width + far.min(8191 - 8 * width)));
+        }
+    }
+    found
+}
+
+/// From the top to the bottom of a triangle: over the whole height and beyond
+/// it, up to the first row and not quite, from the last row on and not quite,
+/// and within a row.
+fn heights_of_one_column(height: i32) -> [(i32, i32); 10] {
+    let (first, last, some) = (sample(0), sample(height - 1), sample(height / 2));
+    [
+        (-8192, 8191),
+        (0, 8 * height),
+        (first, last),
+        (-50, first),
+        (-50, first - 1),
+        (last, last + 50),
+        (last + 1, last + 50),
+        (some - 4, some + 4),
+        (some - 1, some + 1),
+        (some, some + 9),
+    ]
+}
+
+/// A triangle that reaches to all four sides of a box: with a vertex in one of
+/// its corners and one on each side away from it, or two in opposite corners.
+fn boxed(rng: &mut Rng, (left, right): (i32, i32), (top, bottom): (i32, i32)) -> [i32; 6] {
+    // Often in a corner too, so that an edge runs down the column or along a row.
+    let within = |rng: &mut Rng, low: i32, high: i32| {
+        let any = rng.between(i64::from(low), i64::from(high)) as i32;
+        rng.pick(&[low, high, any, any])
+    };
+    let (x, y) = (within(rng, left, right), within(rng, top, bottom));
+    let v = match rng.next() % 6 {
+        0 => [left, top, right, y, x, bottom],
+        1 => [right, top, left, y, x, bottom],
+        2 => [left, bottom, right, y, x, top],
+        3 => [right, bottom, left, y, x, top],
+        4 => [left, top, right, bottom, x, y],
+        _ => [right, top, left, bottom, x, y],
+    };
+    let start = rng.next() as usize % 3;
+    random::turned_right(std::array::from_fn(|k| v[(k + 2 * start) % 6]))
+}
+
+/// Vertices on one line within a box: two of them the same, on a column, or the
+/// third halfway.
+fn no_area(rng: &mut Rng, (left, right): (i32, i32), (top, bottom): (i32, i32)) -> [i32; 6] {
+    let (right, bottom) = (right - (right - left) % 2, bottom - (bottom - top) % 2);
+    let halfway = ((left + right) / 2, (top + bottom) / 2);
+    match rng.next() % 3 {
+        0 => [left, top, right, bottom, left, top],
+        1 => [halfway.0, top, halfway.0, bottom, halfway.0, halfway.1],
+        _ => [left, top, halfway.0, halfway.1, right, bottom],
+    }
+}
+
+/// A plane that has a depth at a pixel, or misses it by one; how it goes on from
+/// there is up to its steps.
+fn around(rng: &mut Rng, depth: i32, (x, y): (i32, i32)) -> Plane {
+    let step = |rng: &mut Rng| rng.pick(&[0, 0, 1, -1, 30_000, -30_000, 65536, -65536, 1 << 20, i32::MAX, i32::MIN]);
+    let (a, b) = (step(rng), step(rng));
+    let there = (depth + rng.pick(&[-1, 0, 1])) << 16 | rng.pick(&[0, 1, 0x8000, 0xffff]);
+    Plane { c: there.wrapping_sub(a.wrapping_mul(x)).wrapping_sub(b.wrapping_mul(y)), a, b }
+}
+
+/// Draws a triangle so that its depth is below, equal to and above what is
+/// stored; `pixel` is one that it may cover.
+fn draw_around_stored(run: &mut Run, rng: &mut Rng, s: u32, v: [i32; 6], pixel: (i32, i32), covered: Option<u32>) {
+    // With no byte to spare, or with some between the areas and around them.
+    let (mut screen, mut ram) = tight(s);
+    if rng.chance(2) {
+        ram += 64;
+        screen = random::sound_screen(rng, s, ram);
+    }
+    let mut t = Triangle { vertices: v.into(), ..covers_all(rng) };
+    let mut calls = Vec::new();
+    let fill = match rng.next() % 4 {
+        // Any depths at all.
+        0 => Fill::Random(rng.next()),
+        // Those of another triangle, drawn the other way, at every pixel.
+        1 => {
+            let beneath = covers_all(rng);
+            let c = beneath.depth.c.wrapping_add(rng.pick(&[-65536, -1, 0, 0, 1, 65536]));
+            t.depth = Plane { c, ..beneath.depth };
+            calls.push(Call::Draw(beneath));
+            Fill::Byte(255)
+        }
+        // One depth everywhere, which the steps cross.
+        _ => {
+            let byte = rng.pick(&[0, 1, 127, 128, 254, 255]);
+            t.depth = around(rng, i32::from(byte) * 257, pixel);
+            Fill::Byte(byte)
+        }
+    };
+    calls.push(Call::Draw(t));
+    let case = Case { lead: (rng.next() % 16) as usize, ..Case::many(ram, fill, screen, &calls) };
+    run.case_wants(&case, 0, covered, None);
+}
+
+/// A triangle whose sample points can lie in one column of the screen alone is
+/// drawn down that column pixel by pixel, every other one another way. Nothing may
+/// tell which it was: triangles on both sides of what divides them.
+fn one_column(run: &mut Run, rng: &mut Rng) {
+    let mut by_columns = [0; 3];
+    let mut draw = |run: &mut Run, rng: &mut Rng, s: u32, across: (i32, i32), down: (i32, i32)| {
+        let (width, height) = ((s / 512 * 16) as i32, (s % 512) as i32);
+        let columns = columns_within(width, across);
+        by_columns[columns.len().min(2)] += 1;
+        let row = rng.between(i64::from(down.0), i64::from(down.1)) as i32 >> 3;
+        let pixel = (columns.start.min(width - 1), row.clamp(0, height - 1));
+        let none = if columns.is_empty() { Some(0) } else { None };
+        let v = boxed(rng, across, down);
+        draw_around_stored(run, rng, s, v, pixel, none);
+        if rng.chance(4) && random::twice_area(v) > 0 {
+            let back = [v[4], v[5], v[2], v[3], v[0], v[1]];
+            draw_around_stored(run, rng, s, back, pixel, Some(0));
+        }
+        if rng.chance(8) {
+            let line = no_area(rng, across, down);
+            draw_around_stored(run, rng, s, line, pixel, Some(0));
+        }
+    };
+    for across in widths_of_one_column(16) {
+        for down in heights_of_one_column(4) {
+            draw(run, rng, size(1, 4), across, down);
+        }
+    }
+    // Every column of two groups, and any rows.
+    for turn in 0..4000 {
+        let left = rng.between(-20, 8 * 32 + 4) as i32;
+        let top = rng.between(-40, 8 * 20 + 8) as i32;
+        let high = rng.pick(&[8, 40, 8 * 20 + 40]);
+        let down = (top, top + rng.between(1, high) as i32);
+        let down = if rng.chance(4) { rng.pick(&heights_of_one_column(20)) } else { down };
+        draw(run, rng, size(2, 20), (left, left + 1 + turn % 18), down);
+    }
+    // The farthest columns there are.
+    let (widths, heights) = (widths_of_one_column(640), heights_of_one_column(480));
+    for _ in 0..8 {
+        let (across, down) = (rng.pick(&widths), rng.pick(&heights));
+        draw(run, rng, 20960, across, down);
+    }
+    let [none, one, two] = by_columns;
+    run.note(format!("{none} boxes hold no column, {one} hold one, {two} hold two or more"));
 }
 
 /// Triangles wholly off the screen cover none; others reach far beyond it.

@@ -1,7 +1,8 @@
 //! Compares the engine with the second program.
 //!
-//!     compare [--drawing | --through | --machine] [--seed N | --seed random]
-//!             [--calls N] [--requests N] [--programs N] [--minutes N]
+//!     compare [--drawing | --through | --panel | --machine]
+//!             [--seed N | --seed random] [--calls N] [--requests N] [--panels N]
+//!             [--programs N] [--minutes N]
 //!     compare --broken NAME     against a wrong variant, which must mismatch
 //!     compare --self-check      all wrong variants; each must be caught
 //!     compare --case 'TEXT'     one case, as a mismatch prints it
@@ -10,16 +11,18 @@
 //! own copies of the memories; number, counts, row part, plane, state, every word
 //! of data memory and every byte of RAM are compared after each. What a machine's
 //! runs do is done by its first single steps too; where these are all, they
-//! must end the same. One line per group, and after each of the three parts
-//! `drawing: N comparisons, M mismatches`, and the same of `plane through` and of
-//! `machine`. The exit status is 0 if nothing mismatched, 1 if something did, 2 if
-//! the command line is wrong.
+//! must end the same. A panel is drawn twice, and the second time must change
+//! nothing more. One line per group, and after each of the four parts
+//! `drawing: N comparisons, M mismatches`, and the same of `plane through`, of
+//! `panel` and of `machine`. The exit status is 0 if nothing mismatched, 1 if
+//! something did, 2 if the command line is wrong.
 
 mod case;
 mod check;
 mod groups;
 mod half_pixel;
 mod machine;
+mod panel;
 mod points;
 mod random;
 mod run;
@@ -33,21 +36,22 @@ use std::process::ExitCode;
 use std::time::{SystemTime, UNIX_EPOCH};
 use subject::{Part, Slip, Subject, SLIPS};
 
-const USAGE: &str =
-    "usage: compare [PART] [--seed N | --seed random] [--calls N] [--requests N] [--programs N] [--minutes N] [--trace]
-       compare --broken NAME [--seed N] [--calls N] [--requests N] [--programs N]
-       compare --self-check [PART] [--seed N] [--calls N] [--requests N] [--programs N]
+const USAGE: &str = "usage: compare [PART] [--seed N | --seed random] [COUNTS] [--minutes N] [--trace]
+       compare --broken NAME [--seed N] [COUNTS]
+       compare --self-check [PART] [--seed N] [COUNTS]
        compare --case 'TEXT'
 
 --drawing      PART: the drawing alone
 --through      PART: the plane through three values alone
---machine      PART: the machine alone (default: all three)
+--panel        PART: the waveform panel alone
+--machine      PART: the machine alone (default: all four)
 --seed N       the random numbers follow from N (default 1)
 --seed random  seed 1 first, then one from the clock
---calls N      at least N random calls of the drawing for each seed (default 100000)
---requests N   at least N random requests for a plane for each seed (default 400000)
---programs N   at least N random programs of 1,000 steps or more for each seed (default 10000)
---minutes N    at least N minutes of random calls, of random planes and of random programs, for each seed (default 0)
+--calls N      COUNTS: at least N random calls of the drawing for each seed (default 100000)
+--requests N   COUNTS: at least N random requests for a plane for each seed (default 400000)
+--panels N     COUNTS: at least N random panels for each seed (default 30000)
+--programs N   COUNTS: at least N random programs of 1,000 steps or more for each seed (default 10000)
+--minutes N    at least N minutes of random calls, planes, panels and programs each, for each seed (default 0)
 --trace        print each case before it is run
 --broken NAME  put a deliberately wrong variant of the second program in the engine's place
 --self-check   do so with every variant; each must be caught
@@ -56,12 +60,13 @@ const USAGE: &str =
 The wrong variants:";
 
 impl Part {
-    const ALL: [Part; 3] = [Part::Drawing, Part::Through, Part::Machine];
+    const ALL: [Part; 4] = [Part::Drawing, Part::Through, Part::Panel, Part::Machine];
 
     fn name(self) -> &'static str {
         match self {
             Part::Drawing => "drawing",
             Part::Through => "plane through",
+            Part::Panel => "panel",
             Part::Machine => "machine",
         }
     }
@@ -70,6 +75,7 @@ impl Part {
         match self {
             Part::Drawing => groups::all(run),
             Part::Through => through::groups::all(run),
+            Part::Panel => panel::groups::all(run),
             Part::Machine => machine::groups::all(run),
         }
     }
@@ -79,6 +85,7 @@ impl Part {
 enum One {
     Drawing(case::Case),
     Through(through::case::Case),
+    Panel(panel::case::Case),
     Machine(Box<machine::case::Case>),
 }
 
@@ -87,6 +94,7 @@ impl One {
         match self {
             One::Drawing(_) => Part::Drawing,
             One::Through(_) => Part::Through,
+            One::Panel(_) => Part::Panel,
             One::Machine(_) => Part::Machine,
         }
     }
@@ -97,6 +105,8 @@ impl One {
             Ok(One::Machine(Box::new(text.parse()?)))
         } else if text.starts_with("through") {
             Ok(One::Through(text.parse()?))
+        } else if text.starts_with("panel") {
+            Ok(One::Panel(text.parse()?))
         } else {
             Ok(One::Drawing(text.parse()?))
         }
@@ -108,6 +118,7 @@ struct Asked {
     seeds: Vec<u64>,
     calls: Option<u64>,
     requests: Option<u64>,
+    panels: Option<u64>,
     programs: Option<u64>,
     minutes: u64,
     trace: bool,
@@ -129,6 +140,7 @@ impl Asked {
             seeds: vec![1],
             calls: None,
             requests: None,
+            panels: None,
             programs: None,
             minutes: 0,
             trace: false,
@@ -142,6 +154,7 @@ impl Asked {
     fn counts(&self, run: &mut Run) {
         run.calls = self.calls.unwrap_or(run.calls);
         run.requests = self.requests.unwrap_or(run.requests);
+        run.panels = self.panels.unwrap_or(run.panels);
         run.programs = self.programs.unwrap_or(run.programs);
     }
 }
@@ -158,9 +171,11 @@ fn asked() -> Result<Asked, String> {
             }
             "--drawing" => asked.parts = vec![Part::Drawing],
             "--through" => asked.parts = vec![Part::Through],
+            "--panel" => asked.parts = vec![Part::Panel],
             "--machine" => asked.parts = vec![Part::Machine],
             "--calls" => asked.calls = Some(args.number()?),
             "--requests" => asked.requests = Some(args.number()?),
+            "--panels" => asked.panels = Some(args.number()?),
             "--programs" => asked.programs = Some(args.number()?),
             "--minutes" => asked.minutes = args.number()?,
             "--trace" => asked.trace = true,
@@ -219,6 +234,7 @@ fn comparison(asked: &Asked) -> bool {
                     match case {
                         One::Drawing(case) => run.case(case).is_some(),
                         One::Through(case) => run.through(case).is_some(),
+                        One::Panel(case) => run.panel(case).is_some(),
                         One::Machine(case) => run.machine(case).is_some(),
                     };
                 }),
@@ -245,7 +261,7 @@ fn self_check(asked: &Asked) -> bool {
             continue;
         }
         let mut run = Run::new(Subject::Broken(slip), asked.seeds[0]);
-        (run.calls, run.requests, run.programs) = (5_000, 5_000, 500);
+        (run.calls, run.requests, run.panels, run.programs) = (5_000, 5_000, 2_000, 500);
         asked.counts(&mut run);
         run.quiet = true;
         part.groups(&mut run);

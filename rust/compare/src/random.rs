@@ -145,26 +145,34 @@ fn call(rng: &mut Rng, s: u32) -> Call {
     }
 }
 
+/// Puts a fault into a screen, the one of eleven that is named; now and then it is
+/// none.
+pub fn spoil_screen(rng: &mut Rng, screen: &mut Screen, ram: usize, fault: u64) {
+    let bytes = area(screen.size_number % (64 * 512));
+    match fault {
+        0 => screen.colour_start |= 1,
+        1 => screen.depth_start |= 1,
+        2 => screen.size_number = rng.next() as u32,
+        3 => screen.size_number = screen.size_number & !511 | rng.pick(&[0, 481, 482, 511]),
+        4 => screen.size_number = screen.size_number % 512 + 512 * rng.pick(&[0, 41, 42, 64, 127, 128, 129]),
+        5 => screen.size_number |= rng.pick(&[1 << 15, 1 << 16, 1 << 17, 1 << 24, 1 << 31]),
+        6 => screen.colour_start = screen.depth_start.wrapping_add(rng.pick(&[0, 2, 4])),
+        7 => screen.depth_start = screen.colour_start.wrapping_add(bytes).wrapping_sub(rng.pick(&[2, 4, 1])),
+        8 => screen.colour_start = (ram as u32).wrapping_sub(bytes).wrapping_add(rng.pick(&[1, 2, 4, 32])),
+        9 => {
+            screen.depth_start =
+                rng.pick(&[0u32.wrapping_sub(bytes), 0u32.wrapping_sub(2), u32::MAX, 1 << 31, ram as u32])
+        }
+        _ => screen.colour_start = rng.next() as u32,
+    }
+}
+
 /// Puts a fault into a step; it may take two or three.
 fn spoil(rng: &mut Rng, step: &mut Step, ram: usize) {
     loop {
         let screen = &mut step.screen;
-        let bytes = area(screen.size_number % (64 * 512));
         match rng.next() % 22 {
-            0 => screen.colour_start |= 1,
-            1 => screen.depth_start |= 1,
-            2 => screen.size_number = rng.next() as u32,
-            3 => screen.size_number = screen.size_number & !511 | rng.pick(&[0, 481, 482, 511]),
-            4 => screen.size_number = screen.size_number % 512 + 512 * rng.pick(&[0, 41, 42, 64, 127, 128, 129]),
-            5 => screen.size_number |= rng.pick(&[1 << 15, 1 << 16, 1 << 17, 1 << 24, 1 << 31]),
-            6 => screen.colour_start = screen.depth_start.wrapping_add(rng.pick(&[0, 2, 4])),
-            7 => screen.depth_start = screen.colour_start.wrapping_add(bytes).wrapping_sub(rng.pick(&[2, 4, 1])),
-            8 => screen.colour_start = (ram as u32).wrapping_sub(bytes).wrapping_add(rng.pick(&[1, 2, 4, 32])),
-            9 => {
-                screen.depth_start =
-                    rng.pick(&[0u32.wrapping_sub(bytes), 0u32.wrapping_sub(2), u32::MAX, 1 << 31, ram as u32])
-            }
-            10 => screen.colour_start = rng.next() as u32,
+            fault @ 0..=10 => spoil_screen(rng, screen, ram, fault),
             _ => {
                 let height = screen.size_number % 512;
                 match &mut step.call {

@@ -3,11 +3,12 @@
 use crate::case::Case;
 use crate::check::{check, Answer, Memories};
 use crate::machine;
+use crate::panel;
 use crate::shrink::shrink;
 use crate::subject::Subject;
 use crate::through;
 use kit::rng::Rng;
-use merikohin::raw::Ran;
+use merikohin::raw::{Panelled, Ran};
 use merikohin::Plane;
 use std::fmt::Display;
 
@@ -18,11 +19,13 @@ pub struct Run {
     pub calls: u64,
     /// Requests the group of random planes makes at least.
     pub requests: u64,
+    /// Panels the group of random panels draws at least.
+    pub panels: u64,
     /// Programs of 1,000 steps or more the group of long random programs runs
     /// at least.
     pub programs: u64,
     /// Minutes the group of random calls takes at least, and the groups of random
-    /// planes and of long random programs.
+    /// planes, of random panels and of long random programs.
     pub minutes: u64,
     /// Print each case before it is run.
     pub trace: bool,
@@ -31,6 +34,7 @@ pub struct Run {
     /// Mismatches shown in full in each group.
     pub shown_at_most: u64,
     pub memories: Memories,
+    pub samples: panel::check::Lent,
     pub machine_memories: machine::check::Memories,
     pub comparisons: u64,
     pub mismatches: u64,
@@ -48,12 +52,14 @@ impl Run {
             seed,
             calls: 100_000,
             requests: 400_000,
+            panels: 30_000,
             programs: 10_000,
             minutes: 0,
             trace: false,
             quiet: false,
             shown_at_most: 3,
             memories: Memories::default(),
+            samples: panel::check::Lent::default(),
             machine_memories: machine::check::Memories::default(),
             comparisons: 0,
             mismatches: 0,
@@ -164,6 +170,43 @@ impl Run {
             format!("wanted number {number}, c, a, b {plane:?}; answered {seen}, {three:?}\n  compare{option} --case '{case}'")
         });
         holds.then_some(answer)
+    }
+
+    /// Draws a panel twice, which is two comparisons. Hands back the subject's
+    /// answer if nothing differed.
+    pub fn panel(&mut self, case: &panel::case::Case) -> Option<Panelled> {
+        if self.trace {
+            eprintln!("{case}");
+        }
+        let (seen, difference) = panel::check::check(self.subject, case, &mut self.memories, &mut self.samples);
+        self.comparisons += 2;
+        match difference {
+            None => Some(seen),
+            Some(text) => {
+                if self.mismatch() {
+                    let smallest = panel::shrink(self.subject, case, &mut self.memories, &mut self.samples);
+                    let again = panel::check::check(self.subject, &smallest, &mut self.memories, &mut self.samples);
+                    self.tell(case, &smallest, "", &again.1.unwrap_or(text));
+                }
+                None
+            }
+        }
+    }
+
+    /// Draws a panel and also wants its number, and the count of its pixels where
+    /// one is given; refused, one of 0. Tells whether nothing differed.
+    pub fn panel_wants(&mut self, case: &panel::case::Case, number: u32, pixels: Option<u32>) -> bool {
+        let Some(seen) = self.panel(case) else { return false };
+        let pixels = if number == 0 { pixels } else { Some(0) };
+        let holds = seen.number == number && pixels.unwrap_or(seen.pixels) == seen.pixels;
+        let option = self.subject.option();
+        self.holds(holds, || {
+            format!(
+                "wanted number {number}, pixels {pixels:?}; answered {}, {}\n  compare{option} --case '{case}'",
+                seen.number, seen.pixels
+            )
+        });
+        holds
     }
 
     /// Runs a case of the machine; every run in it is one comparison, and every

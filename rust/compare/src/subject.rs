@@ -4,12 +4,14 @@
 use crate::case::{second_screen, second_triangle, Area};
 use crate::machine::broken;
 use crate::machine::case::plain_state;
+use crate::panel;
+use crate::panel::broken::Slip as Panel;
 use crate::through;
-use merikohin::raw::{self, Drawn, Ran, Stepped};
+use merikohin::raw::{self, Drawn, Panelled, Ran, Stepped};
 use merikohin::{Plane, Refusal, Screen, State, Triangle};
 
 /// The slips a wrong variant can have: eight of the drawing, thirteen of the
-/// plane through three values, the others of the machine.
+/// plane through three values, those of the panel, the others of the machine.
 #[derive(Clone, Copy, Debug, PartialEq, Eq)]
 pub enum Slip {
     /// A pixel is sampled at its upper left corner, as 01 had it before 02.
@@ -55,6 +57,8 @@ pub enum Slip {
     StepsNotJudged,
     /// A refusal gives the plane as far as it was worked out.
     RefusedPlane,
+    /// One of the panel.
+    Panel(Panel),
     /// DOT adds four products before the shift.
     DotSum,
     /// TREEIN and TREEVAL use the new r1 for the leaves.
@@ -147,21 +151,23 @@ impl Slip {
             | Slip::JudgedUnraised
             | Slip::StepsNotJudged
             | Slip::RefusedPlane => Part::Through,
+            Slip::Panel(_) => Part::Panel,
             _ => Part::Machine,
         }
     }
 }
 
-/// What is compared: the calls that draw, the plane through three values, or the
-/// machine.
+/// What is compared: the calls that draw, the plane through three values, the
+/// waveform panel, or the machine.
 #[derive(Clone, Copy, Debug, PartialEq, Eq)]
 pub enum Part {
     Drawing,
     Through,
+    Panel,
     Machine,
 }
 
-pub const SLIPS: [(&str, Slip); 53] = [
+pub const SLIPS: [(&str, Slip); 103] = [
     ("upper-left", Slip::UpperLeft),
     ("upper-left-x", Slip::UpperLeftX),
     ("upper-left-y", Slip::UpperLeftY),
@@ -183,6 +189,56 @@ pub const SLIPS: [(&str, Slip); 53] = [
     ("judged-unraised", Slip::JudgedUnraised),
     ("steps-not-judged", Slip::StepsNotJudged),
     ("refused-plane", Slip::RefusedPlane),
+    ("panel-column-out", Slip::Panel(Panel::ColumnOut)),
+    ("panel-last-column", Slip::Panel(Panel::LastColumn)),
+    ("panel-columns-512", Slip::Panel(Panel::Columns512)),
+    ("panel-one-before", Slip::Panel(Panel::OneBefore)),
+    ("panel-one-after", Slip::Panel(Panel::OneAfter)),
+    ("panel-no-first", Slip::Panel(Panel::NoFirst)),
+    ("panel-no-last", Slip::Panel(Panel::NoLast)),
+    ("panel-offset-turned", Slip::Panel(Panel::OffsetTurned)),
+    ("panel-offset-in-columns", Slip::Panel(Panel::OffsetInColumns)),
+    ("panel-samples-32768", Slip::Panel(Panel::Samples32768)),
+    ("panel-column-toward-zero", Slip::Panel(Panel::ColumnTowardZero)),
+    ("panel-none-drawn", Slip::Panel(Panel::NoneDrawn)),
+    ("panel-missing-zero", Slip::Panel(Panel::MissingZero)),
+    ("panel-unsigned", Slip::Panel(Panel::Unsigned)),
+    ("panel-from-zero", Slip::Panel(Panel::FromZero)),
+    ("panel-else-smallest", Slip::Panel(Panel::ElseSmallest)),
+    ("panel-joined", Slip::Panel(Panel::Joined)),
+    ("panel-no-top", Slip::Panel(Panel::NoTop)),
+    ("panel-no-bottom", Slip::Panel(Panel::NoBottom)),
+    ("panel-no-row-479", Slip::Panel(Panel::NoRow479)),
+    ("panel-diagonal-missed", Slip::Panel(Panel::DiagonalMissed)),
+    ("panel-diagonal-twice", Slip::Panel(Panel::DiagonalTwice)),
+    ("panel-upside-down", Slip::Panel(Panel::UpsideDown)),
+    ("panel-row-rounded", Slip::Panel(Panel::RowRounded)),
+    ("panel-row-toward-zero", Slip::Panel(Panel::RowTowardZero)),
+    ("panel-height-less-1", Slip::Panel(Panel::HeightLess1)),
+    ("panel-row-65535", Slip::Panel(Panel::Row65535)),
+    ("panel-row-32768", Slip::Panel(Panel::Row32768)),
+    ("panel-product-24", Slip::Panel(Panel::Product24)),
+    ("panel-no-depth", Slip::Panel(Panel::NoDepth)),
+    ("panel-depth-far", Slip::Panel(Panel::DepthFar)),
+    ("panel-green-5", Slip::Panel(Panel::Green5)),
+    ("panel-depth-above", Slip::Panel(Panel::DepthAbove)),
+    ("panel-count-bars", Slip::Panel(Panel::CountBars)),
+    ("panel-count-changed", Slip::Panel(Panel::CountChanged)),
+    ("panel-clears", Slip::Panel(Panel::Clears)),
+    ("panel-refusal-draws", Slip::Panel(Panel::RefusalDraws)),
+    ("panel-ten-before-5", Slip::Panel(Panel::TenBefore5)),
+    ("panel-ten-before-3", Slip::Panel(Panel::TenBefore3)),
+    ("panel-ram-longer", Slip::Panel(Panel::RamLonger)),
+    ("panel-empty-first", Slip::Panel(Panel::EmptyFirst)),
+    ("panel-most-40959", Slip::Panel(Panel::Most40959)),
+    ("panel-most-40961", Slip::Panel(Panel::Most40961)),
+    ("panel-empty-refused", Slip::Panel(Panel::EmptyRefused)),
+    ("panel-n-0", Slip::Panel(Panel::N0)),
+    ("panel-n-65", Slip::Panel(Panel::N65)),
+    ("panel-least-offset", Slip::Panel(Panel::LeastOffset)),
+    ("panel-offset-2049", Slip::Panel(Panel::Offset2049)),
+    ("panel-offset-2048", Slip::Panel(Panel::Offset2048)),
+    ("panel-offset-beyond", Slip::Panel(Panel::OffsetBeyond)),
     ("dot-sum", Slip::DotSum),
     ("new-r1", Slip::NewR1),
     ("same-register", Slip::SameRegister),
@@ -243,6 +299,22 @@ pub struct ThroughSeen {
     pub alike_in_rust: bool,
 }
 
+/// As whom the panel is asked for.
+#[derive(Clone, Copy, Debug, PartialEq, Eq)]
+pub enum Way {
+    C,
+    Rust,
+}
+
+impl Way {
+    pub fn words(self) -> &'static str {
+        match self {
+            Way::C => "as C has it",
+            Way::Rust => "once more, as Rust has it",
+        }
+    }
+}
+
 fn part_of(ram: &[u8], part: &[u8]) -> (usize, usize) {
     ((part.as_ptr() as usize).wrapping_sub(ram.as_ptr() as usize), part.len())
 }
@@ -285,6 +357,18 @@ fn engine_through(case: &through::case::Case) -> ThroughSeen {
         Err(refusal) => number == refusal.number(),
     };
     ThroughSeen { number, plane, alike_in_rust }
+}
+
+/// What the engine answers, as C has it or as Rust has it.
+fn engine_panel(way: Way, ram: &mut [u8], samples: &[i16], case: &panel::case::Case) -> Panelled {
+    let panel::case::Case { screen, per_column, offset, colour, .. } = *case;
+    match way {
+        Way::C => raw::panel(ram, screen, samples, per_column, offset, colour),
+        Way::Rust => match merikohin::panel(ram, screen, samples, per_column, offset, colour) {
+            Ok(pixels) => Panelled { number: 0, pixels },
+            Err(refusal) => Panelled { number: refusal.number(), pixels: 0 },
+        },
+    }
 }
 
 impl Subject {
@@ -345,6 +429,15 @@ impl Subject {
         match self {
             Subject::Engine => engine_through(case),
             Subject::Broken(slip) => through::broken::plane_through(slip, case),
+        }
+    }
+
+    pub fn panel(self, way: Way, ram: &mut [u8], samples: &[i16], case: &panel::case::Case) -> Panelled {
+        let input = panel::check::second_input(case, samples);
+        match self {
+            Subject::Engine => engine_panel(way, ram, samples, case),
+            Subject::Broken(Slip::Panel(slip)) => panel::broken::panel(slip, ram, case.screen, &input),
+            Subject::Broken(_) => panel::check::seen(second::panel::panel(ram, second_screen(case.screen), &input)),
         }
     }
 

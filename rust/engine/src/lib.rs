@@ -1,5 +1,5 @@
-//! The Merikohin graphics engine for Rust callers: the drawing, and the machine
-//! of 41 instructions that shares its screens.
+//! The Merikohin graphics engine for Rust callers: the drawing, with waveform
+//! panels, and the machine of 41 instructions that shares its screens.
 //!
 //! A thin layer over the proved library `libmerikohin.a` (its C interface is
 //! `include/merikohin.h`, and each function here has the name of C's without
@@ -50,6 +50,14 @@ pub const VERTEX_LEAST: i32 = -8192;
 pub const VERTEX_MOST: i32 = 8191;
 /// The greatest value at a vertex; the least is 0.
 pub const VALUE_MOST: i32 = 32767;
+/// Samples of a recording at most.
+pub const SAMPLES_MOST: usize = 40_960;
+/// Samples that a panel's column shows at most; the least is 1.
+pub const PER_COLUMN_MOST: i32 = 64;
+/// The least offset of a panel, in samples.
+pub const OFFSET_LEAST: i32 = -2048;
+/// The greatest offset.
+pub const OFFSET_MOST: i32 = 2047;
 
 /// What a triangle did: pixels covered, and how many of these were written.
 #[derive(Clone, Copy, Debug, PartialEq, Eq)]
@@ -77,7 +85,7 @@ pub struct Stepped {
 fn done(number: u32) -> Result<(), Refusal> {
     match number {
         0 => Ok(()),
-        _ => Err(Refusal::from_number(number).expect("the library answers 0 to 9")),
+        _ => Err(Refusal::from_number(number).expect("the library answers 0 to 10")),
     }
 }
 
@@ -129,6 +137,39 @@ pub fn draw(ram: &mut [u8], screen: Screen, triangle: Triangle) -> Result<Drawn,
 pub fn plane_through(vertices: Vertices, values: Values) -> Result<Plane, Refusal> {
     let through = raw::plane_through(vertices, values);
     done(through.number).map(|()| through.plane)
+}
+
+/// Draws a waveform panel, and answers how many pixels it drew. Column x of the
+/// screen shows the samples numbered x·n + d to x·n + d + n - 1, with n
+/// `per_column` and d the `offset`, leaving out those that do not exist. A column
+/// with none stays as it was; in any other the rows from that of the largest
+/// sample to that of the smallest get the colour and depth 0. A sample v stands
+/// at row (32767 - v) × height / 65536, rounded down. Nothing is cleared. Refuses
+/// with 3, 5 and 10.
+///
+/// ```
+/// use merikohin::{clear, panel, row, Refusal, Screen};
+/// let mut ram = [0; 256];
+/// let screen = Screen::new(0, 128, 16, 4);
+/// clear(&mut ram, screen, 0, 65535)?;
+/// let samples = [0, 20000, -20000, 5, 6]; // rows 1, 0, 3, 1 and 1
+/// assert_eq!(panel(&mut ram, screen, &samples, 2, 0, 7), Ok(2 + 3 + 1));
+/// assert_eq!(row(&ram, screen, 0)?[..8], [0, 7, 0, 0, 0, 0, 0, 0]);
+/// assert_eq!(row(&ram, screen, 1)?[..8], [0, 7, 0, 7, 0, 7, 0, 0]);
+/// assert_eq!(row(&ram, screen, 3)?[..8], [0, 0, 0, 7, 0, 0, 0, 0]);
+/// assert_eq!(panel(&mut ram, screen, &samples, 0, 0, 7), Err(Refusal::NoPanel));
+/// # Ok::<(), Refusal>(())
+/// ```
+pub fn panel(
+    ram: &mut [u8],
+    screen: Screen,
+    samples: &[i16],
+    per_column: i32,
+    offset: i32,
+    colour: u16,
+) -> Result<u32, Refusal> {
+    let panelled = raw::panel(ram, screen, samples, per_column, offset, colour);
+    done(panelled.number).map(|()| panelled.pixels)
 }
 
 /// Whether a row can be read: what [`row`] and [`depth_row`] refuse, this
@@ -243,7 +284,7 @@ mod tests {
     fn laid_out_as_c() {
         assert_eq!((size_of::<Screen>(), size_of::<Plane>(), size_of::<Vertices>()), (12, 12, 24));
         assert_eq!((size_of::<Triangle>(), size_of::<raw::Drawn>(), size_of::<raw::RowPart>()), (72, 12, 24));
-        assert_eq!((size_of::<Values>(), size_of::<raw::Through>()), (12, 16));
+        assert_eq!((size_of::<Values>(), size_of::<raw::Through>(), size_of::<raw::Panelled>()), (12, 16, 8));
         assert_eq!((size_of::<Tree>(), size_of::<State>(), size_of::<raw::Ran>()), (108, 272, 288));
         assert_eq!(size_of::<raw::Stepped>(), 280);
         let state = fresh();
@@ -263,7 +304,7 @@ mod tests {
         for refusal in Refusal::ALL {
             assert!(rules.contains(&format!("| {} | {refusal} |", refusal.number())), "{refusal}");
             assert!(header.contains(&format!("return \"{refusal}\";")), "{refusal}");
-            assert!(header.contains(&format!(" = {},", refusal.number())) || refusal.number() == 9);
+            assert!(header.contains(&format!(" = {},", refusal.number())) || refusal.number() == 10);
         }
         for halt in Halt::ALL {
             assert!(rules.contains(&format!("| {} | {halt} |", halt.number())), "{halt}");
@@ -277,6 +318,9 @@ mod tests {
             ("HEIGHT_MOST", HEIGHT_MOST.into()),
             ("VERTEX_MOST", VERTEX_MOST.into()),
             ("VALUE_MOST", VALUE_MOST.into()),
+            ("SAMPLES_MOST", SAMPLES_MOST as i64),
+            ("PER_COLUMN_MOST", PER_COLUMN_MOST.into()),
+            ("OFFSET_MOST", OFFSET_MOST.into()),
         ] {
             assert!(header.contains(&format!("#define MERIKOHIN_{name} {value}")), "{name}");
         }
@@ -286,7 +330,7 @@ mod tests {
     #[test]
     fn numbers_there_and_back() {
         for number in 0..100 {
-            assert_eq!(Refusal::from_number(number).map_or(0, Refusal::number), if number < 10 { number } else { 0 });
+            assert_eq!(Refusal::from_number(number).map_or(0, Refusal::number), if number < 11 { number } else { 0 });
             let halts = (11..18).contains(&number);
             assert_eq!(Halt::from_number(number).map_or(0, Halt::number), if halts { number } else { 0 });
         }

@@ -22,6 +22,14 @@ pub struct Through {
     pub plane: Plane,
 }
 
+/// The answer to a panel: its number, and how many pixels it drew.
+#[repr(C)]
+#[derive(Clone, Copy, Debug, PartialEq, Eq)]
+pub struct Panelled {
+    pub number: u32,
+    pub pixels: u32,
+}
+
 /// The answer to a row or a depth row, in places: the row's own bytes are
 /// `ram[start..start + length]`. Refused, both are 0.
 #[repr(C)]
@@ -53,13 +61,23 @@ pub struct Stepped {
 }
 
 mod library {
-    use super::{Drawn, Ran, RowPart, Screen, State, Stepped, Through, Triangle, Values, Vertices};
+    use super::{Drawn, Panelled, Ran, RowPart, Screen, State, Stepped, Through, Triangle, Values, Vertices};
 
     #[link(name = "merikohin", kind = "static")]
     extern "C" {
         pub fn merikohin_clear(ram: *mut u8, ram_len: usize, s: Screen, colour: u16, depth: u16) -> u32;
         pub fn merikohin_draw(ram: *mut u8, ram_len: usize, s: Screen, t: Triangle) -> Drawn;
         pub fn merikohin_plane_through(v: Vertices, r: Values) -> Through;
+        pub fn merikohin_panel(
+            ram: *mut u8,
+            ram_len: usize,
+            s: Screen,
+            samples: *const i16,
+            samples_len: usize,
+            per_column: i32,
+            offset: i32,
+            colour: u16,
+        ) -> Panelled;
         pub fn merikohin_row_check(ram: *const u8, ram_len: usize, s: Screen, row: u32) -> u32;
         pub fn merikohin_row(ram: *const u8, ram_len: usize, s: Screen, row: u32) -> RowPart;
         pub fn merikohin_depth_row(ram: *const u8, ram_len: usize, s: Screen, row: u32) -> RowPart;
@@ -105,6 +123,25 @@ pub fn draw(ram: &mut [u8], screen: Screen, triangle: Triangle) -> Drawn {
 pub fn plane_through(vertices: Vertices, values: Values) -> Through {
     // SAFETY: nothing is lent.
     unsafe { library::merikohin_plane_through(vertices, values) }
+}
+
+/// `merikohin_panel`: 0, 3, 5 or 10.
+#[must_use]
+pub fn panel(ram: &mut [u8], screen: Screen, samples: &[i16], per_column: i32, offset: i32, colour: u16) -> Panelled {
+    // SAFETY: the two slices are lent whole, for the length of the call, and do
+    // not overlap; the samples are only read.
+    unsafe {
+        library::merikohin_panel(
+            ram.as_mut_ptr(),
+            ram.len(),
+            screen,
+            samples.as_ptr(),
+            samples.len(),
+            per_column,
+            offset,
+            colour,
+        )
+    }
 }
 
 /// `merikohin_row_check`: 0, 3, 5 or 8.

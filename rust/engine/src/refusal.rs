@@ -23,11 +23,12 @@ pub enum Refusal {
     EdgeOutOfRange = 7,
     RowOutOfRange = 8,
     NoPlane = 9,
+    NoPanel = 10,
 }
 
 impl Refusal {
     /// All of them, from the lowest.
-    pub const ALL: [Refusal; 9] = [
+    pub const ALL: [Refusal; 10] = [
         Refusal::ProgramTooLong,
         Refusal::MemoryNot1024,
         Refusal::RamTooLong,
@@ -37,6 +38,7 @@ impl Refusal {
         Refusal::EdgeOutOfRange,
         Refusal::RowOutOfRange,
         Refusal::NoPlane,
+        Refusal::NoPanel,
     ];
 
     /// The number, as C has it.
@@ -66,6 +68,9 @@ impl Refusal {
             Refusal::RowOutOfRange => "the row is not below the height",
             Refusal::NoPlane => {
                 "a value is outside 0..32767, the doubled area is not positive, or c, a or b is outside signed 32 bits"
+            }
+            Refusal::NoPanel => {
+                "there are more than 40,960 samples, the samples a column are outside 1..64, or the offset is outside -2048..2047"
             }
         }
     }

@@ -2,6 +2,7 @@
 //! engine.
 
 pub mod args;
+pub mod letters;
 pub mod pixels;
 pub mod png;
 pub mod rng;

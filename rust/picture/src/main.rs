@@ -1,9 +1,11 @@
 //! Draws a picture with the engine and writes it as a PNG file to standard
-//! output: the review desk, or enlarged one shared edge, or half a pixel.
+//! output: the review desk, or enlarged one shared edge, or half a pixel. Or
+//! writes the recording that the command's panel shows.
 //!
 //!     target/rust/release/picture > docs/picture.png
 //!     target/rust/release/picture --edge > docs/edge.png
 //!     target/rust/release/picture --half-pixel > docs/changes/M-100.png
+//!     target/rust/release/picture --snick > examples/sounds/snick.wav
 
 mod camera;
 mod canvas;
@@ -12,6 +14,7 @@ mod edge;
 mod grid;
 mod half_pixel;
 mod pitch;
+mod snick;
 mod sound;
 mod strip;
 mod text;
@@ -23,24 +26,32 @@ use std::io::Write;
 use std::process::ExitCode;
 
 fn main() -> ExitCode {
-    match Args::from_env().and_then(wanted) {
-        Ok(canvas) => {
-            let (width, height) = canvas.size();
-            let file = png::encode(width, height, &pixels::rgb_rows(&canvas.colours()));
-            std::io::stdout().write_all(&file).expect("standard output takes the picture");
+    match Args::from_env().and_then(|args| file(&args.collect::<Vec<_>>())) {
+        Ok(file) => {
+            std::io::stdout().write_all(&file).expect("standard output takes the file");
             ExitCode::SUCCESS
         }
         Err(problem) => {
             eprintln!("picture: {problem}; it is used as picture [--edge | --half-pixel] > FILE.png");
+            eprintln!("or as picture --snick > FILE.wav");
             ExitCode::from(2)
         }
     }
 }
 
+/// The file that the command line asks for.
+fn file(words: &[Arg]) -> Result<Vec<u8>, String> {
+    if matches!(words, [Arg::Option(word)] if word == "--snick") {
+        return Ok(snick::file());
+    }
+    let canvas = wanted(words)?;
+    let (width, height) = canvas.size();
+    Ok(png::encode(width, height, &pixels::rgb_rows(&canvas.colours())))
+}
+
 /// The picture that the command line asks for.
-fn wanted(args: Args) -> Result<Canvas, String> {
-    let words: Vec<Arg> = args.collect();
-    match &words[..] {
+fn wanted(words: &[Arg]) -> Result<Canvas, String> {
+    match words {
         [] => Ok(desk::draw()),
         [Arg::Option(word)] if word == "--edge" => Ok(edge::draw()),
         [Arg::Option(word)] if word == "--half-pixel" => Ok(half_pixel::draw()),
@@ -53,7 +64,11 @@ mod tests {
     use super::*;
 
     fn drawn(words: &[&str]) -> Canvas {
-        wanted(Args::new(words.iter().copied())).unwrap()
+        wanted(&read(words)).unwrap()
+    }
+
+    fn read(words: &[&str]) -> Vec<Arg> {
+        Args::new(words.iter().copied()).collect()
     }
 
     /// The files in docs/, read back by the reader that shares nothing with the
@@ -81,8 +96,8 @@ mod tests {
 
     #[test]
     fn other_words_are_refused() {
-        for words in [&["--edges"][..], &["edge"], &["--edge", "--edge"], &["--edge", "--half-pixel"]] {
-            assert!(wanted(Args::new(words.iter().copied())).is_err());
+        for words in [&["--edges"][..], &["edge"], &["--edge", "--edge"], &["--snick", "--half-pixel"]] {
+            assert!(file(&read(words)).is_err());
         }
     }
 }

@@ -1,57 +1,17 @@
-//! Letters and digits of 5 by 7 blocks. Blocks side by side are one rectangle,
-//! two triangles.
+//! Text in letters of blocks. Blocks side by side are one rectangle, two
+//! triangles.
 
 use crate::canvas::{Canvas, Colour, Point};
-
-const WIDE: usize = 5;
+use kit::letters::{glyph, runs};
 
 /// From a letter's left side to the next one's.
-const ADVANCE: f64 = 6.0;
+const ADVANCE: f64 = kit::letters::ADVANCE as f64;
 
-pub const HIGH: f64 = 7.0;
-
-/// The letters that the pictures use.
-const GLYPHS: [(char, [&str; 7]); 31] = [
-    (' ', ["     ", "     ", "     ", "     ", "     ", "     ", "     "]),
-    ('0', [" ### ", "#   #", "#  ##", "# # #", "##  #", "#   #", " ### "]),
-    ('1', ["  #  ", " ##  ", "  #  ", "  #  ", "  #  ", "  #  ", " ### "]),
-    ('2', [" ### ", "#   #", "    #", "   # ", "  #  ", " #   ", "#####"]),
-    ('3', [" ### ", "#   #", "    #", "  ## ", "    #", "#   #", " ### "]),
-    ('4', ["   # ", "  ## ", " # # ", "#  # ", "#####", "   # ", "   # "]),
-    ('5', ["#####", "#    ", "#### ", "    #", "    #", "#   #", " ### "]),
-    ('6', ["  ## ", " #   ", "#    ", "#### ", "#   #", "#   #", " ### "]),
-    ('7', ["#####", "    #", "   # ", "  #  ", " #   ", " #   ", " #   "]),
-    ('8', [" ### ", "#   #", "#   #", " ### ", "#   #", "#   #", " ### "]),
-    ('9', [" ### ", "#   #", "#   #", " ####", "    #", "   # ", " ##  "]),
-    ('A', [" ### ", "#   #", "#   #", "#####", "#   #", "#   #", "#   #"]),
-    ('B', ["#### ", "#   #", "#   #", "#### ", "#   #", "#   #", "#### "]),
-    ('C', [" ### ", "#   #", "#    ", "#    ", "#    ", "#   #", " ### "]),
-    ('D', ["#### ", "#   #", "#   #", "#   #", "#   #", "#   #", "#### "]),
-    ('E', ["#####", "#    ", "#    ", "#### ", "#    ", "#    ", "#####"]),
-    ('F', ["#####", "#    ", "#    ", "#### ", "#    ", "#    ", "#    "]),
-    ('G', [" ### ", "#   #", "#    ", "# ###", "#   #", "#   #", " ####"]),
-    ('H', ["#   #", "#   #", "#   #", "#####", "#   #", "#   #", "#   #"]),
-    ('I', [" ### ", "  #  ", "  #  ", "  #  ", "  #  ", "  #  ", " ### "]),
-    ('L', ["#    ", "#    ", "#    ", "#    ", "#    ", "#    ", "#####"]),
-    ('M', ["#   #", "## ##", "# # #", "# # #", "#   #", "#   #", "#   #"]),
-    ('N', ["#   #", "##  #", "# # #", "#  ##", "#   #", "#   #", "#   #"]),
-    ('O', [" ### ", "#   #", "#   #", "#   #", "#   #", "#   #", " ### "]),
-    ('P', ["#### ", "#   #", "#   #", "#### ", "#    ", "#    ", "#    "]),
-    ('R', ["#### ", "#   #", "#   #", "#### ", "# #  ", "#  # ", "#   #"]),
-    ('S', [" ####", "#    ", "#    ", " ### ", "    #", "    #", "#### "]),
-    ('T', ["#####", "  #  ", "  #  ", "  #  ", "  #  ", "  #  ", "  #  "]),
-    ('U', ["#   #", "#   #", "#   #", "#   #", "#   #", "#   #", " ### "]),
-    ('W', ["#   #", "#   #", "#   #", "# # #", "# # #", "## ##", "#   #"]),
-    ('X', ["#   #", "#   #", " # # ", "  #  ", " # # ", "#   #", "#   #"]),
-];
-
-fn glyph(letter: char) -> [&'static str; 7] {
-    GLYPHS.iter().find(|(name, _)| *name == letter).expect("a letter that has blocks").1
-}
+pub const HIGH: f64 = kit::letters::HIGH as f64;
 
 /// How wide a text is, in blocks.
 pub fn width(text: &str) -> f64 {
-    text.chars().count() as f64 * ADVANCE - 1.0
+    kit::letters::width(text) as f64
 }
 
 /// How a text is set: its depth, its colour, and how many pixels a block is wide.
@@ -81,32 +41,9 @@ pub fn write_around(canvas: &mut Canvas, text: &str, (x, y): Point, set: Type) {
     write(canvas, text, at, set);
 }
 
-/// Where blocks stand side by side: the first, and how many.
-fn runs(blocks: &str) -> Vec<(usize, usize)> {
-    let set: Vec<bool> = blocks.chars().map(|block| block == '#').collect();
-    let starts = (0..WIDE).filter(|&k| set[k] && (k == 0 || !set[k - 1]));
-    starts.map(|first| (first, set[first..].iter().take_while(|block| **block).count())).collect()
-}
-
 #[cfg(test)]
 mod tests {
     use super::*;
-
-    #[test]
-    fn letters_are_5_by_7() {
-        for (letter, rows) in GLYPHS {
-            assert!(rows.iter().all(|row| row.len() == WIDE && row.chars().all(|c| " #".contains(c))), "{letter}");
-            assert_eq!(glyph(letter), rows, "{letter} stands twice");
-        }
-    }
-
-    #[test]
-    fn blocks_side_by_side() {
-        assert_eq!(runs("## ##"), [(0, 2), (3, 2)]);
-        assert_eq!(runs("#####"), [(0, 5)]);
-        assert_eq!(runs("  #  "), [(2, 1)]);
-        assert!(runs("     ").is_empty());
-    }
 
     /// What is written, read back from the screen block by block.
     #[test]

@@ -1,13 +1,15 @@
 //! The second program.
 //!
-//! It says document 01 (exact rules), as M-100, M-101 and M-103 of 02 (change
-//! requests) change it, once more, independently of the engine and in their order
-//! and words, as plainly as possible: one loop over every pixel of the screen,
+//! It says document 01 (exact rules), as M-100, M-101, M-103 and M-104 of 02
+//! (change requests) change it, once more, independently of the engine and in their
+//! order and words, as plainly as possible: one loop over every pixel of the screen,
 //! numbers wide enough never to overflow, no shortcuts. It is there to be compared
 //! with the engine, not to be fast. The drawing is here; the machine is in
-//! [`machine`], the plane through three values in [`through`].
+//! [`machine`], the plane through three values in [`through`], the waveform panel
+//! in [`panel`].
 
 pub mod machine;
+pub mod panel;
 pub mod through;
 
 // ---------------------------------------------------------------------------

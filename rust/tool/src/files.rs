@@ -58,14 +58,20 @@ impl Output {
         Ok(Output { file, kind })
     }
 
-    /// Writes the screen, or the RAM whole.
-    pub fn write(&self, ram: &[u8], screen: Option<Screen>) -> Result<(), Problem> {
+    /// Writes screens of one width, each below the one before, or the RAM whole.
+    pub fn write(&self, ram: &[u8], screens: impl IntoIterator<Item = Screen>) -> Result<(), Problem> {
         if self.kind == Kind::Ram {
             return write(&self.file, ram);
         }
-        let screen = screen.ok_or_else(|| Problem::new(problem::NO_SCREEN, "").at(Place::file(&self.file)))?;
-        let (width, height) = (screen.width(), screen.height());
-        let colours = colours(ram, screen)?;
+        let (mut width, mut height, mut colours) = (0, 0, Vec::new());
+        for screen in screens {
+            width = screen.width();
+            height += screen.height();
+            colours.extend(colours_of(ram, screen)?);
+        }
+        if height == 0 {
+            return Err(Problem::new(problem::NO_SCREEN, "").at(Place::file(&self.file)));
+        }
         let bytes = match self.kind {
             Kind::Png => png::encode(width, height, &pixels::rgb_rows(&colours)),
             Kind::Ppm => pixels::ppm(width, height, &colours),
@@ -80,7 +86,7 @@ pub fn suffix(file: &str) -> &str {
 }
 
 /// A screen's colours, row by row.
-pub fn colours(ram: &[u8], screen: Screen) -> Result<Vec<u16>, Problem> {
+fn colours_of(ram: &[u8], screen: Screen) -> Result<Vec<u16>, Problem> {
     let mut colours = Vec::new();
     for y in 0..screen.height() {
         let row = merikohin::row(ram, screen, y).map_err(|refusal| Problem::refused(refusal, format!("row {y}")))?;

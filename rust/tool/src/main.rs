@@ -1,10 +1,15 @@
 //! `merikohin`, the engine's command. docs/TOOL.md describes it.
 
 mod asm;
+mod columns;
 mod files;
+mod panel;
+mod places;
 mod problem;
+mod ruler;
 mod run;
 mod scene;
+mod sound;
 mod terminal;
 mod vertices;
 mod why;
@@ -17,7 +22,7 @@ use scene::Scene;
 use std::process::ExitCode;
 
 /// Each subcommand: its name, its usage, what it does, an example.
-const COMMANDS: [(&str, &str, &str, &str); 6] = [
+const COMMANDS: [(&str, &str, &str, &str); 7] = [
     (
         "asm",
         "merikohin asm FILE.s -o FILE.bin",
@@ -60,6 +65,28 @@ the nearest, to 65535; at a vertex to 32767.",
         "Tells for each triangle of a scene whether it covers the pixel (X, Y), its depth against the stored one,
 and whether it was written. Status 0 where a triangle wrote the pixel, 1 where none did.",
         "merikohin why examples/scenes/pair.txt 2 1",
+    ),
+    (
+        "panel",
+        "merikohin panel FILE.wav|FILE.raw [--per-column N] [--offset D] [--channel C] [--from K] [--rate HZ] [--size WxH]
+                  [--where-column X] [--where-sample S] [-o OUT]",
+        "Draws a recording as a waveform with a ruler in samples below it, and prints which samples it shows.
+A column shows N samples, column 0 from sample K + D on, and fills the rows from the largest to the smallest.
+
+  --per-column N   1 to 64; left out, the least that shows all of the recording, or a second of it
+  --offset D       -2048 to 2047, by default 0: D + N moves the picture one column to the left, D - N to the right
+  --from K         the recording begins at sample K of the file; it has 40,960 samples at most
+  --channel C      takes channel C, counted from 1, of a file with several
+  --rate HZ        samples a second, for the times, of a file that does not say: a .raw file
+  --size WxH       the waveform's columns (16 to 640, by 16) and rows (1 to 480), by default 640x120
+  --where-column X tells which samples column X shows, their times, and the largest and the smallest
+  --where-sample S tells the column in which sample S of the file stands, its value, row and time
+  -o OUT           writes waveform and ruler (.png, .ppm, .txt) or the RAM (.ram)
+
+Samples are numbered as in the file, columns and rows on the screen, all from 0. A .wav file has 16-bit PCM samples,
+a .raw file signed 16-bit little-endian samples of one channel. The --where options may be given more than once.
+Status 1 where a column that is asked for has no sample, or a sample no column.",
+        "merikohin panel examples/sounds/snick.wav --per-column 4 --offset 48 --where-sample 1300 -o panel.png",
     ),
     (
         "explain",
@@ -112,19 +139,21 @@ fn command(mut args: Args) -> Result<bool, Problem> {
     match (name.as_str(), &plain[..]) {
         ("asm", [file]) if words.only(&["-o"]) => assemble(file, words.output.as_deref().ok_or_else(wrong)?),
         ("dis", [file]) if words.only(&[]) => disassemble(file),
-        ("run", [file]) => run::run(&words.run(file)?),
+        ("run", [file]) if words.only(&["-o", "--steps", "--ram", "--trace"]) => run::run(&words.run(file)?),
         ("draw", [file]) if words.only(&["-o"]) => draw(file, words.output()?),
         ("why", [file, x, y]) if words.only(&[]) => {
             let (x, y) = (number(x).map_err(usage)?, number(y).map_err(usage)?);
             why::why(&read_scene(file)?, x, y)
         }
+        ("panel", [file]) if words.only(&panel::NAMES) => panel::panel(file, &words.panel, words.output()?),
         ("explain", [text]) if words.only(&[]) => Ok(explain(number(text).map_err(usage)?)),
         _ => Err(wrong()),
     }
 }
 
 fn help() -> String {
-    let mut text = String::from("merikohin draws triangles and runs programs with the proved engine.\n\n");
+    let mut text =
+        String::from("merikohin draws triangles and waveforms and runs programs with the proved engine.\n\n");
     for (_, form, _, _) in COMMANDS {
         text += &format!("  {form}\n");
     }
@@ -141,6 +170,7 @@ struct Words {
     steps: Option<u64>,
     ram: Option<String>,
     trace: bool,
+    panel: panel::Options,
     help: bool,
 }
 
@@ -157,6 +187,7 @@ impl Words {
                         "--ram" => words.ram = Some(args.value()?),
                         "--trace" => words.trace = true,
                         "--help" | "-h" => words.help = true,
+                        other if words.panel.take(other, &mut args)? => {}
                         _ => return Err(format!("unknown: {option}")),
                     }
                     words.options.push(option);
@@ -220,7 +251,7 @@ fn draw(file: &str, output: Option<Output>) -> Result<bool, Problem> {
         }
     }
     if let Some(output) = output {
-        output.write(&ram, Some(scene.screen))?;
+        output.write(&ram, [scene.screen])?;
     }
     Ok(true)
 }
@@ -229,7 +260,7 @@ fn draw(file: &str, output: Option<Output>) -> Result<bool, Problem> {
 fn explain(number: u32) -> bool {
     let who = match number {
         0 => "what every call answers where nothing was refused",
-        1..=9 => "a call's refusal: nothing was changed",
+        1..=10 => "a call's refusal: nothing was changed",
         11..=17 => "a halt: the step was not carried out, and its state says so",
         _ => "this program's own",
     };

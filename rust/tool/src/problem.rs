@@ -14,13 +14,15 @@ pub mod status {
 }
 
 /// The tool's own numbers, with their sentences and statuses.
-pub const OWN: [(u32, &str, u8); 15] = [
+pub const OWN: [(u32, &str, u8); 19] = [
     (USAGE, "the command line is not understood", status::USAGE),
     (UNREADABLE, "the file cannot be read", status::SYSTEM),
     (UNWRITABLE, "the file cannot be written", status::SYSTEM),
     (SUFFIX, "the file's suffix is none that is known here", status::USAGE),
     (NO_SCREEN, "there is no screen to write", status::REFUSED),
     (HALF_A_WORD, "the program file is not of whole words of four bytes", status::REFUSED),
+    (SOUND, "the sound file is not taken", status::REFUSED),
+    (NO_CHANNEL, "the file has no such channel", status::REFUSED),
     (LINE, "the line is not understood", status::REFUSED),
     (NO_INSTRUCTION, "there is no such instruction", status::REFUSED),
     (OPERANDS, "the instruction has other operands", status::REFUSED),
@@ -30,6 +32,8 @@ pub const OWN: [(u32, &str, u8); 15] = [
     (NO_NUMBER, "this is not a number", status::REFUSED),
     (SCREEN_FIRST, "a scene begins with its one screen", status::REFUSED),
     (OFF_SCREEN, "the pixel is not on the screen", status::REFUSED),
+    (NO_COLUMN, "the panel has no such column", status::REFUSED),
+    (NO_SAMPLE, "the file has no such sample", status::REFUSED),
 ];
 pub const USAGE: u32 = 100;
 pub const UNREADABLE: u32 = 101;
@@ -37,6 +41,8 @@ pub const UNWRITABLE: u32 = 102;
 pub const SUFFIX: u32 = 103;
 pub const NO_SCREEN: u32 = 104;
 pub const HALF_A_WORD: u32 = 105;
+pub const SOUND: u32 = 106;
+pub const NO_CHANNEL: u32 = 107;
 pub const LINE: u32 = 110;
 pub const NO_INSTRUCTION: u32 = 111;
 pub const OPERANDS: u32 = 112;
@@ -46,6 +52,8 @@ pub const NAME_TWICE: u32 = 115;
 pub const NO_NUMBER: u32 = 116;
 pub const SCREEN_FIRST: u32 = 120;
 pub const OFF_SCREEN: u32 = 121;
+pub const NO_COLUMN: u32 = 122;
+pub const NO_SAMPLE: u32 = 123;
 
 /// The sentence of a number and the status with which it ends the program.
 pub fn meaning(number: u32) -> Option<(&'static str, u8)> {

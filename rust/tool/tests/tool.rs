@@ -54,7 +54,7 @@ fn fails(words: &[&str], status: i32, number: u32, ends: &str) {
 }
 
 /// Command lines that fail: with which status and number, and words of the message.
-const LINES: [(&str, i32, u32, &str); 21] = [
+const LINES: [(&str, i32, u32, &str); 36] = [
     ("", 2, 100, "--help tells which"),
     ("paint", 2, 100, "paint; merikohin --help tells more"),
     ("--loud", 2, 100, "--loud; merikohin --help tells more"),
@@ -76,7 +76,33 @@ const LINES: [(&str, i32, u32, &str); 21] = [
     ("dis HALF", 3, 105, "5 bytes"),
     ("why SCENE 16 0", 3, 121, "(16, 0) of 16 by 4"),
     ("why SCENE 0 4", 3, 121, "(0, 4) of 16 by 4"),
+    ("run EMPTY --offset 1", 2, 100, "usage: merikohin run"),
+    ("panel SOUND --steps 1", 2, 100, "usage: merikohin panel"),
+    ("panel SOUND --size 640", 2, 100, "--size is WIDTHxHEIGHT, not 640; usage: merikohin panel"),
+    ("panel SOUND --rate 0", 2, 100, "--rate is 1 or more; usage: merikohin panel"),
+    ("panel SOUND --where-column -1", 2, 100, "the number does not fit: -1; usage: merikohin panel"),
+    ("panel SOUND --rate 8000", 2, 100, "--rate is for files that do not say theirs; this one says 48000"),
+    ("panel nowhere.wav", 4, 101, "(nowhere.wav)"),
+    ("panel SCENE", 2, 103, ".wav or .raw is wanted"),
+    ("panel SOUND -o x.wav", 2, 103, ".png, .ppm, .txt or .ram is wanted (x.wav)"),
+    ("panel ODD", 3, 106, "it has 3 bytes, not a whole number of samples; signed 16-bit little-endian samples"),
+    (
+        "panel NO_SOUND",
+        3,
+        106,
+        "it does not begin as a WAV file, with RIFF and WAVE; a WAV file of 16-bit PCM samples is taken",
+    ),
+    ("panel SOUND --channel 2", 3, 107, "--channel 2; it has channel 1 alone"),
+    ("panel SOUND --where-column 640", 3, 122, "--where-column 640; it has columns 0 to 639"),
+    ("panel SOUND --where-sample 12000", 3, 123, "--where-sample 12000; it has 12000 samples, counted from 0"),
+    ("panel SOUND --from 12000", 3, 123, "--from 12000; it has 12000 samples, counted from 0"),
 ];
+
+/// The waveform's colour.
+const WAVE: &str = "6718";
+
+/// The recording that the pages show.
+const SNICK: &str = "examples/sounds/snick.wav";
 
 /// Programs and scenes that are refused at their last line: the suffix, the text, the number, the value.
 const TEXTS: [(&str, &str, u32, &str); 15] = [
@@ -107,6 +133,9 @@ fn its_own_numbers() {
         ("SCENE", written("own.txt", "screen 16 4\n")),
         ("EMPTY", written("empty.s", "")),
         ("HALF", written("half.bin", [0; 5])),
+        ("SOUND", SNICK.into()),
+        ("ODD", written("odd.raw", [0; 3])),
+        ("NO_SOUND", written("no.wav", "this is no sound")),
     ];
     for (line, status, number, says) in LINES {
         let named = |word| files.iter().find(|(name, _)| *name == word).map_or(word, |(_, path)| path.as_str());
@@ -352,14 +381,97 @@ now: colour 0001, depth 5\n"
     assert!(hidden.status == 1 && hidden.out.contains("depth 1, stored 0: hidden, not written"), "{}", hidden.out);
 }
 
+/// The pages' pictures of one recording at two offsets, and what is told beside them.
+#[test]
+fn panels() {
+    for (offset, column) in [("0", 325), ("48", 313)] {
+        let picture = file(&format!("panel-{offset}.png"));
+        let words = ["panel", SNICK, "--per-column", "4", "--offset", offset, "--where-sample", "1300", "-o", &picture];
+        let told = done(&words);
+        assert!(told.contains(&format!("column {column}, row ")), "{told}");
+        let kept = fs::read(repository(&format!("docs/panel-{offset}.png"))).unwrap();
+        assert!(fs::read(picture).unwrap() == kept, "{offset}");
+        assert_eq!(png::decode(&kept).map(|picture| (picture.0, picture.1)), Ok((640, 120 + 36)));
+    }
+    let page = fs::read_to_string(repository("docs/TOOL.md")).unwrap();
+    let line = page.lines().find_map(|line| line.trim().strip_prefix("$ merikohin panel ")).unwrap();
+    let picture = file("page.png");
+    let words: Vec<&str> = line.split(' ').map(|word| if word == "panel.png" { &picture } else { word }).collect();
+    for line in done(&[&["panel"], &words[..]].concat()).lines() {
+        assert!(page.contains(&format!("\n    {line}\n")), "{line}");
+    }
+}
+
+/// d + n is d one column to the left, but for what comes in at the right side.
+#[test]
+fn one_column_to_the_left() {
+    let rows = |offset: &str| {
+        let text = file(&format!("moved{offset}.txt"));
+        done(&["panel", SNICK, "--per-column", "16", "--offset", offset, "--size", "160x40", "-o", &text]);
+        let text = fs::read_to_string(text).unwrap();
+        let bars = |line: &str| line.split(' ').map(|pixel| pixel == WAVE).collect();
+        text.lines().take(40).map(bars).collect::<Vec<Vec<bool>>>()
+    };
+    let (before, after) = (rows("32"), rows("48"));
+    assert!(before.iter().zip(&after).all(|(before, after)| before[1..] == after[..159]));
+    assert!(before.concat().contains(&true) && before != after);
+}
+
+/// What the engine refuses, with the option that it is; and places that have nothing.
+#[test]
+fn no_panels() {
+    for (option, value) in [("--per-column", "0"), ("--per-column", "65"), ("--offset", "-2049"), ("--offset", "2048")]
+    {
+        fails(&["panel", SNICK, option, value], 3, 10, &format!(": {option} {value} ({SNICK})"));
+    }
+    let never = file("never.png");
+    for size in ["20x4", "16x0", "656x1", "16x481", "4294967295x4294967295"] {
+        let taken = "a width of 16 to 640 by 16 and a height of 1 to 480 are taken";
+        // 5 goes before 10.
+        let words = ["panel", SNICK, "--size", size, "--per-column", "99", "-o", &never];
+        fails(&words, 3, 5, &format!(": --size {size}; {taken} ({SNICK})"));
+    }
+    fails(&["panel", SNICK, "--where-column", "640", "-o", &never], 3, 122, "");
+    assert!(!Path::new(&never).exists());
+    let empty = written("empty.raw", "");
+    let told = merikohin(&["panel", &empty, "--where-column", "0", "-o", &file("none.png")]);
+    assert_eq!((told.status, told.err.as_str()), (1, ""));
+    let wanted = "0 samples; times are told where --rate is given
+panel: 640 columns of 1 sample, offset 0: no samples
+drawn: 0 pixels
+column 0: no samples; it is for sample 0, and the recording has no samples\n";
+    assert_eq!(told.out, format!("{empty}: {wanted}"));
+    assert!(Path::new(&file("none.png")).exists());
+}
+
+/// A whole second and more, on screens of every width; where it does not fit, how the rest is seen.
+#[test]
+fn a_whole_second() {
+    let second: Vec<u8> = (0..50_000).flat_map(|k: i32| ((k * 7919) as i16).to_le_bytes()).collect();
+    let path = written("second.raw", second);
+    for k in 1..=40 {
+        let (columns, size) = (16 * k, format!("{}x{k}", 16 * k));
+        let told = done(&["panel", &path, "--rate", "8000", "--size", &size]);
+        let part = format!("8000 samples do not fit: {columns} columns of 64, the most, show {}\n", 64 * columns);
+        assert_eq!(told.contains(&part), 64 * columns < 8000, "{told}");
+    }
+    let told = done(&["panel", &path, "--rate", "48000", "--offset", "7"]);
+    assert!(
+        told.contains("samples 7 to 40959, ") && told.contains("right of it: 9040 samples; --from 40953 goes on"),
+        "{told}"
+    );
+    let rest = done(&["panel", &path, "--rate", "48000", "--offset", "7", "--from", "40953"]);
+    assert!(rest.contains("samples 40960 to 49999, ") && !rest.contains("right of it"), "{rest}");
+}
+
 #[test]
 fn explanations() {
     assert_eq!(done(&["explain", "0"]).lines().next(), Some("0: done"));
     assert_eq!(done(&["explain", "6"]).lines().next(), Some("6: a vertex number is outside -8192..8191"));
-    for number in (0..10).chain(11..18) {
+    for number in 0..18 {
         assert!(done(&["explain", &number.to_string()]).starts_with(&format!("{number}: ")));
     }
-    for number in ["10", "18", "99", "4294967295"] {
+    for number in ["18", "99", "4294967295"] {
         let done = merikohin(&["explain", number]);
         assert_eq!((done.status, done.out), (1, format!("{number}: nothing answers this number\n")));
     }
@@ -369,7 +481,7 @@ fn explanations() {
 #[test]
 fn help() {
     let all = done(&["--help"]);
-    for name in ["asm", "dis", "run", "draw", "why", "explain"] {
+    for name in ["asm", "dis", "run", "draw", "why", "panel", "explain"] {
         assert!(all.contains(&format!("merikohin {name} ")), "{all}");
         let one = done(&[name, "--help"]);
         assert!(one.starts_with(&format!("usage: merikohin {name} ")), "{one}");
@@ -377,7 +489,7 @@ fn help() {
         let words: Vec<String> = example
             .split(' ')
             .map(|word| {
-                if word.starts_with("raster.") || word.starts_with("shaded.") {
+                if ["raster.", "shaded.", "panel."].iter().any(|name| word.starts_with(name)) {
                     file(&format!("help-{word}"))
                 } else {
                     word.into()

@@ -295,10 +295,7 @@ impl fmt::Display for Case {
         if self.lead != 0 {
             write!(f, " lead={}", self.lead)?;
         }
-        match self.fill {
-            Fill::Random(seed) => write!(f, " fill=random:{seed}")?,
-            Fill::Byte(byte) => write!(f, " fill=byte:{byte}")?,
-        }
+        write!(f, " fill={}", self.fill)?;
         for (at, bytes) in runs_of(&self.bytes) {
             let bytes: String = bytes.iter().map(|byte| format!("{byte:02x}")).collect();
             write!(f, " put={at}:{bytes}")?;

@@ -1,10 +1,9 @@
 -- The loop's invariant is `Down`, what holds before row y, and the crossings of that row. Rows that the triangle
 -- cannot touch are skipped by its law.
 -- Places: from the loop back to `rows` (the touched rows), `sized` (the width), and the function's entry.
-use Prim.Native.Nat.{ℕ, _+_, _-_, _≤_, _<_}
+use Prim.Native.Nat.{ℕ, _-_, _≤_, _<_}
 use mathlib.Core.Path.{_≡_, sym, _∙_, subst}
 use mathlib.Core.Bool.{true}
-use native.Mathlib.Nat.{zero-add}
 use native.Mathlib.Omega.{arith}
 use Rattle.rules.specs.Sizes.{width, height, sound}
 use Rattle.rules.proofs.Pixels.{sound-facts, width-le, height-le}
@@ -13,7 +12,8 @@ use Rattle.cover.specs.Spans.{RowSpan}
 use Rattle.cover.proofs.Crossing.{crossings-can-go-below}
 use Rattle.rows.specs.Lines.{line, drawing}
 use Rattle.rows.proofs.Rowed.{covered-is}
-use Rattle.draw.proofs.Framed.{Down, undrawn, down-none, down-skip, down-more, down-last, length-down, room-down}
+use Rattle.draw.specs.Frames.{RowsTouched}
+use Rattle.draw.proofs.Framed.{Down, down-first, down-more, down-past, length-down, room-down}
 use Rattle.draw.proofs.frames.frame.Statement.{statement}
 use Rattle.draw.proofs.frames.frame.Tie as tie
 
@@ -56,24 +56,22 @@ crossings-at-requires c κs =
       omega (arith, r .ordered, r .limited, c .before .height .ensures, height-le (sound-facts (q .pre .is-sound))),
     )
 
+-- the touched rows, of the screen's own height
+touched : (c : tie.After-touched-rows Inv-loop μ-loop) →
+    let sized = c .before .before in
+    let a = sized .before .before .before .before .args in
+    RowsTouched (a .t .vertices) (height (a .s .size)) (c .touched-rows .result)
+touched c =
+    let sized = c .before .before in
+    let a = sized .before .before .before .before .args in
+    subst (λ (n : ℕ). RowsTouched (a .t .vertices) n (c .touched-rows .result)) (c .before .height .ensures) (c .touched-rows .ensures)
+
 loop-holds : tie.Need-loop-holds Inv-loop μ-loop
 loop-holds c =
     let rows = c .before in
     let sized = rows .before .before in
     let q = sized .before .before .before .before in
-    let a = q .args in
-    let m = a .ram .now in
-    let r = rows .touched-rows in
-    let e = rows .before .height .ensures in
-    let first = r .result .from in
-    let f = sound-facts (q .pre .is-sound) in (
-      subst (Down m (a .s) (a .t) (undrawn m)) (zero-add first)
-          (down-skip f down-none first
-          (omega (arith, r .ensures .ordered, r .ensures .limited))
-          (λ x j h k. r .ensures .before x j (omega (arith, r .ensures .ordered, r .ensures .limited)) (omega arith))),
-      r .ensures .ordered,
-      c .crossings-at .ensures,
-    )
+    (down-first (sound-facts (q .pre .is-sound)) (touched rows), rows .touched-rows .ensures .ordered, c .crossings-at .ensures)
 
 row-span-requires : tie.Need-row-span-requires Inv-loop μ-loop
 row-span-requires c κs =
@@ -155,16 +153,8 @@ returns c =
     let rows = c .before .before .before in
     let sized = rows .before .before in
     let q = sized .before .before .before .before in
-    let a = q .args in
-    let m = a .ram .now in
     let l = c .before .loop in
-    let r = rows .touched-rows .ensures in
-    let h = height (a .s .size) in
-    let e : l .y + (h - l .y) ≡ h = omega (arith, l .inv .0 .before-end) in
-    down-last
-    (subst (Down m (a .s) (a .t) (drawing (l .ram) (l .c))) e
-    (down-skip (sound-facts (q .pre .is-sound)) (l .inv .0) (h - l .y) (omega arith)
-    (λ x j m n. r .beyond x j (omega (arith, rows .before .height .ensures)) (omega (arith, l .inv .1, c .loop-test .left)))))
+    down-past (sound-facts (q .pre .is-sound)) (touched rows) (l .inv .0) (omega (arith, l .inv .1, c .loop-test .left))
 
 pub frame-spec : {M : Type 1} → statement M
 frame-spec =

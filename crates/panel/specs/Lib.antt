@@ -1,0 +1,2 @@
+-- The words of the contracts inside.
+pub mod Columns
