@@ -1,4 +1,5 @@
 // The instructions that touch the data memory: LD, ST and DOT, and READ and WRITE between it and the RAM.
+#![tactic(auto)]
 ghost use Rattle.std.specs.Prelude.{◌<◌, ◌≡◌, length};
 ghost use Rattle.instructions.specs.Opcodes.{LD, ST, DOT, READ, WRITE};
 ghost use Rattle.instructions.specs.Words.{opcode};

@@ -1,4 +1,5 @@
 // The machine's state as C has it: a flag or a mark is a number, 0 for no and any other for yes, so that every pattern of bits is a state.
+#![tactic(auto)]
 ghost use Rattle.std.specs.Prelude.{◌≡◌};
 ghost use Rattle.border.specs.Lent.{number_of, marks_of, bytes_of, tree_of, lent_tree, state_of, lent_state};
 
@@ -6,7 +7,7 @@ use instructions::{State, Tree};
 use rules::Screen;
 
 #[repr(C)]
-#[derive(Drop)]
+#[derive(Clone, Copy)]
 pub struct LentTree {
     pub column: u32,
     pub row: u32,
@@ -18,7 +19,7 @@ pub struct LentTree {
 }
 
 #[repr(C)]
-#[derive(Drop)]
+#[derive(Clone, Copy)]
 pub struct LentState {
     pub regs: [u32; 32],
     pub place: u32,

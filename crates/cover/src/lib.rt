@@ -1,4 +1,5 @@
 // Which pixels of a row a triangle covers.
+#![tactic(auto)]
 pub mod crossed;
 pub mod points;
 pub mod setup;
@@ -7,14 +8,14 @@ pub mod ticks;
 pub mod units;
 
 // One edge: what a row adds to its crossing, raised by LIFT; `ends`: going right the inside ends.
-#[derive(Drop)]
+#[derive(Clone, Copy)]
 pub struct Side {
     pub down: u64,
     pub ends: bool,
 }
 
 // The sides of a triangle's three edges.
-#[derive(Drop)]
+#[derive(Clone, Copy)]
 pub struct Sides {
     pub p: Side,
     pub q: Side,
@@ -22,7 +23,7 @@ pub struct Sides {
 }
 
 // How far before column 0 each edge crosses a row, in ticks of a column, rounded up and raised by RAISE.
-#[derive(Drop)]
+#[derive(Clone, Copy)]
 pub struct Crossings {
     pub p: u64,
     pub q: u64,
@@ -30,7 +31,7 @@ pub struct Crossings {
 }
 
 // From `from` up to but not including `to`.
-#[derive(Drop)]
+#[derive(Clone, Copy)]
 pub struct Span {
     pub from: u32,
     pub to: u32,

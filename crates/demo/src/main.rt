@@ -1,4 +1,5 @@
 // Clears a 16 by 4 screen, draws two triangles that share an edge, and writes each pixel's colour as a digit.
+#![tactic(auto)]
 ghost use Rattle.std.specs.Prelude.{◌<◌, ◌≡◌, length};
 
 use libc::STDOUT_FILENO;

@@ -1,9 +1,10 @@
 // The machine's state, plain data by value, in the words of document 01.
+#![tactic(auto)]
 use rules::Screen;
 
 // A tree: its place, and for each of its sixteen leaves marks I and O, a colour and a depth; whether depths are held.
 #[repr(C)]
-#[derive(Drop)]
+#[derive(Clone, Copy)]
 pub struct Tree {
     pub column: u32,
     pub row: u32,
@@ -16,7 +17,7 @@ pub struct Tree {
 
 // `shown`: it has a screen; `planted`: it has a tree. The fields of an absent screen or tree mean nothing.
 #[repr(C)]
-#[derive(Drop)]
+#[derive(Clone, Copy)]
 pub struct State {
     pub regs: [u32; 32],
     pub place: u32,

@@ -1,1 +1,2 @@
 // Laws of the integers, cited by other crates: no code.
+#![tactic(auto)]

@@ -1,4 +1,5 @@
 // A tree's leaves by value: what TREESET, TREEIN and TREEVAL 1 to 3 make of them. A leaf's value is added up: no leaf needs a product.
+#![tactic(auto)]
 ghost use Rattle.std.specs.Prelude.{◌≡◌};
 ghost use Rattle.rules.specs.Triangles.{positive, negative};
 ghost use Rattle.instructions.specs.Words.{signed};

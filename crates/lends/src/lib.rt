@@ -1,4 +1,5 @@
 // A run over a state as C has it, and what a run and a single step answer.
+#![tactic(auto)]
 ghost use Rattle.lends.specs.Lends.{RunsLent, lent, run_outcome};
 
 use border::{LentState, lent_state, state_of};
@@ -7,7 +8,7 @@ use states::machine_number;
 
 // What a run answers: its number, the steps carried out, and the state.
 #[repr(C)]
-#[derive(Drop)]
+#[derive(Clone, Copy)]
 pub struct LentRan {
     pub number: u32,
     pub steps: u64,
@@ -45,7 +46,7 @@ pub fn run_lent(
 
 // What a step answers: its number, 1 if it was carried out and else 0, and the state.
 #[repr(C)]
-#[derive(Drop)]
+#[derive(Clone, Copy)]
 pub struct LentStepped {
     pub number: u32,
     pub carried: u32,

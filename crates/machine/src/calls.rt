@@ -11,7 +11,7 @@ use runs::run;
 use states::machine_number;
 
 // What a run answers: its number, the steps carried out, and the state.
-#[derive(Drop)]
+#[derive(Clone, Copy)]
 pub struct Ran {
     pub number: u32,
     pub steps: u64,
@@ -19,7 +19,7 @@ pub struct Ran {
 }
 
 // What a run of an accepted call leaves.
-#[derive(Drop)]
+#[derive(Clone, Copy)]
 pub struct Left {
     pub steps: u64,
     pub state: State,
@@ -83,7 +83,7 @@ pub fn run_machine(
 }
 
 // What a step answers: its number, whether it was carried out, and the state.
-#[derive(Drop)]
+#[derive(Clone, Copy)]
 pub struct Stepped {
     pub number: u32,
     pub carried: bool,

@@ -1,11 +1,12 @@
 // The masks of four groups of sixteen leaves that stand side by side.
+#![tactic(auto)]
 ghost use Rattle.std.specs.Prelude.{◌≡◌, ◌+◌, ◌*◌, ◌≤◌, ◌<◌};
 ghost use Rattle.std.specs.Int.Count.{ones};
 ghost use Rattle.masks.specs.Mask.{mask_of, MasksOf};
 ghost use Rattle.masks.specs.Span.{in_span};
 
 // A mask for each group, from the left; leaf 0 in the top bit.
-#[derive(Drop)]
+#[derive(Clone, Copy)]
 pub struct Masks {
     pub one: u16,
     pub two: u16,

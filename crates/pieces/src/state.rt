@@ -5,7 +5,7 @@ ghost use Rattle.pieces.specs.Pieces.{at, cpu_of, joined, screened, stopped, tre
 use instructions::{State, Tree};
 use rules::Screen;
 
-#[derive(Drop)]
+#[derive(Clone, Copy)]
 pub struct Cpu {
     pub place: u32,
     pub negative: bool,
@@ -14,7 +14,7 @@ pub struct Cpu {
 }
 
 // The flags stand side by side: apart, the padding behind each would be copied at every step from SCRSET on.
-#[derive(Drop)]
+#[derive(Clone, Copy)]
 pub struct View {
     pub shown: bool,
     pub planted: bool,

@@ -1,4 +1,5 @@
 // The planes' values at a pixel, two planes to a word of 64 bits, and their steps to the right.
+#![tactic(auto)]
 ghost use Rattle.std.specs.Prelude.{◌≡◌, ◌<◌, ◌≤◌};
 ghost use Rattle.planes.specs.Planes.{pair_of, pair_at, tints_at, tint_steps, tints_moved, tint_colour};
 
@@ -7,7 +8,7 @@ use std::num::wrapping_add_u64;
 use words::{bits32, pair, pair_times};
 
 // The values of the four planes at a pixel, two to a word: depth (z) above blue, green above red.
-#[derive(Drop)]
+#[derive(Clone, Copy)]
 pub struct Tints {
     pub zb: u64,
     pub gr: u64,

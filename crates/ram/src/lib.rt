@@ -1,9 +1,12 @@
 // Half-words and words in the lent RAM, big-endian.
+#![tactic(auto)]
+
 ghost use Rattle.std.specs.Prelude.{◌+◌, ◌<◌, ◌≡◌, length};
 ghost use Rattle.ram.specs.Ram.{load_word, store_half, store_word};
 ghost use Rattle.ram.specs.Loads.{LoadsHalf};
 
 // The half-word at `a`.
+#[tactic(auto, unfolding(crate::specs::Ram::load_half))]
 pub fn load_half(ram: &[u8], a: usize) -> u32
     requires { a + 1 < length ram.now }
     ensures { LoadsHalf ram.now a result }
@@ -12,6 +15,7 @@ pub fn load_half(ram: &[u8], a: usize) -> u32
 }
 
 // Stores the half-word `v` at `a`.
+#[tactic(auto, unfolding(crate::specs::Ram::store_half))]
 pub fn store_half(ram: &mut [u8], a: usize, v: u32)
     requires { (a + 1 < length ram.old) × (v < 65536) }
     ensures { ram.new ≡ store_half ram.old a v }
@@ -21,6 +25,7 @@ pub fn store_half(ram: &mut [u8], a: usize, v: u32)
 }
 
 // The word at `a`. Its four bytes stand side by side, so one load and a byte swap serve.
+#[tactic(auto, unfolding(crate::specs::Ram::load_word))]
 pub fn load_word(ram: &[u8], a: usize) -> u32
     requires { a + 3 < length ram.now }
     ensures { result ≡ load_word ram.now a }
@@ -29,6 +34,7 @@ pub fn load_word(ram: &[u8], a: usize) -> u32
 }
 
 // Stores the word `v` at `a`.
+#[tactic(auto, unfolding(crate::specs::Ram::store_word))]
 pub fn store_word(ram: &mut [u8], a: usize, v: u32)
     requires { a + 3 < length ram.old }
     ensures { ram.new ≡ store_word ram.old a v }

@@ -1,4 +1,5 @@
 // The row reader: the number of a request, where a row's own bytes stand, and the bytes themselves, of colours and of depths.
+#![tactic(auto)]
 ghost use Rattle.std.specs.Prelude.{◌+◌, ◌≤◌, length};
 ghost use Rattle.rules.specs.Sizes.{colour_at, depth_at};
 ghost use Rattle.reader.specs.Parts.{IsPart, begins_at};
@@ -9,7 +10,7 @@ use screen::sizes::{colour_at, depth_at, height, screen_number, width};
 
 // Where a row's own bytes stand, for languages that cannot take a reference as an answer.
 #[repr(C)]
-#[derive(Drop)]
+#[derive(Clone, Copy)]
 pub struct RowPart {
     pub number: u32,
     pub start: u64,

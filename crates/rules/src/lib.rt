@@ -1,8 +1,9 @@
 // The plain data that the calls take and answer, in the words of document 01.
+#![tactic(auto)]
 
 // A screen: where its colours and its depths start in the RAM, and its size number S.
 #[repr(C)]
-#[derive(Drop)]
+#[derive(Clone, Copy)]
 pub struct Screen {
     pub colour: u32,
     pub depth: u32,
@@ -11,7 +12,7 @@ pub struct Screen {
 
 // A plane has c + a·x + b·y at pixel (x, y).
 #[repr(C)]
-#[derive(Drop)]
+#[derive(Clone, Copy)]
 pub struct Plane {
     pub c: i32,
     pub a: i32,
@@ -20,7 +21,7 @@ pub struct Plane {
 
 // Three vertices in eighths of a pixel, x to the right, y downward.
 #[repr(C)]
-#[derive(Drop)]
+#[derive(Clone, Copy)]
 pub struct Vertices {
     pub x1: i32,
     pub y1: i32,
@@ -32,7 +33,7 @@ pub struct Vertices {
 
 // Three vertices and four planes.
 #[repr(C)]
-#[derive(Drop)]
+#[derive(Clone, Copy)]
 pub struct Triangle {
     pub vertices: Vertices,
     pub depth: Plane,
@@ -43,7 +44,7 @@ pub struct Triangle {
 
 // What drawing a triangle answers.
 #[repr(C)]
-#[derive(Drop)]
+#[derive(Clone, Copy)]
 pub struct Drawn {
     pub number: u32,
     pub covered: u32,

@@ -1,4 +1,5 @@
 // The machine's run: each step in turn, to the budget or to a halt.
+#![tactic(auto)]
 ghost use Rattle.alu.specs.Reciprocals.{Reciprocals};
 ghost use Rattle.pieces.specs.Pieces.{machine};
 ghost use Rattle.runs.specs.Runs.{Ends, Ready};
@@ -13,7 +14,7 @@ use steps::opcodes::WRITE;
 const LONG: u64 = 1024;
 
 // What a run leaves of the pieces by value, and the steps carried out.
-#[derive(Drop)]
+#[derive(Clone, Copy)]
 pub struct Ended {
     pub cpu: Cpu,
     pub view: View,

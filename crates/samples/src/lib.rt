@@ -1,4 +1,5 @@
 // Which samples a column has, the largest and the smallest of them, and the rows at which they stand.
+#![tactic(auto)]
 ghost use Rattle.std.specs.Prelude.{◌≡◌, true, ◌≤◌, ◌<◌, length, ◌≤ℤ◌};
 ghost use Rattle.waveform.specs.Panel.{good_waveform, row_of};
 ghost use Rattle.samples.specs.Reached.{Clamps, EndsBetween, LaterOf, Reaches, ◌≥ℤ◌};
@@ -19,7 +20,7 @@ fn clamped(k: i32, count: usize) -> usize
 }
 
 // The samples that column x takes and that exist: from number `from` up to but not including `to`.
-#[derive(Drop)]
+#[derive(Clone, Copy)]
 pub struct Reach {
     pub from: usize,
     pub to: usize,
@@ -38,7 +39,7 @@ pub fn reached(count: usize, n: i32, d: i32, x: u32) -> Reach
 }
 
 // The largest and the smallest of some samples.
-#[derive(Drop)]
+#[derive(Clone, Copy)]
 pub struct Range {
     pub largest: i16,
     pub smallest: i16,

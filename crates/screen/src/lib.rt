@@ -1,3 +1,4 @@
 // The screen in lent memory: sizes and soundness, the clear.
+#![tactic(auto)]
 pub mod clear;
 pub mod sizes;

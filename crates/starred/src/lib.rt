@@ -1,1 +1,2 @@
 // Document 01's starred cases, over its definitions. There is no code here.
+#![tactic(auto)]

@@ -1,4 +1,5 @@
 // A state before it runs: a fresh one, whether one is ill-formed, and the number of a call with it.
+#![tactic(auto)]
 ghost use Rattle.std.specs.Prelude.{◌≡◌};
 ghost use Rattle.instructions.specs.Run.{ill_formed, machine_number};
 ghost use Rattle.instructions.specs.Calls.{Fresh};

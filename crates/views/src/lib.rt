@@ -1,4 +1,5 @@
 // The instructions from SCRSET on, which alone touch the screen and the tree.
+#![tactic(auto)]
 ghost use Rattle.std.specs.Prelude.{◌+◌, ◌<◌, ◌≡◌, length};
 ghost use Rattle.instructions.specs.Opcodes.{SCRSET, CLS, TREESET, TREEIN, TREEVAL, TREEPUT};
 ghost use Rattle.instructions.specs.Words.{in_r1, in_r2, opcode, r1, with_register};
@@ -24,7 +25,7 @@ const NO_SCREEN: u32 = 17;
 const NO_TREE: u32 = 14;
 
 // What a step leaves of the pieces by value.
-#[derive(Drop)]
+#[derive(Clone, Copy)]
 pub struct ViewStep {
     pub cpu: Cpu,
     pub view: View,
