@@ -1,4 +1,5 @@
 // The screen in lent memory: sizes and soundness, the clear.
 #![tactic(auto)]
+
 pub mod clear;
 pub mod sizes;

@@ -1,5 +1,6 @@
 // Arithmetic modulo 2^32, and pairs of such numbers in a word of 64 bits.
 #![tactic(auto)]
+
 ghost use Rattle.std.specs.Prelude.{◌≡◌, ◌+◌, ◌*◌, ◌%◌, ◌^◌, ◌<◌};
 ghost use Rattle.ints.specs.Modulo.{mod32};
 

@@ -19,7 +19,7 @@ masked z f =
     ap (to_z w64) (low_mask (of_z w64 z) ∙ mod32-low z f.sfits)
     ∙ to_z_pos w64 (mod32 z) (omega (arith, mod32-lt z))
 
-cast-result : tie.Need-overflow-cast-result
+cast-result : tie.Need-overflow_cast-result
 cast-result c =
     subst (λ (k : ℤ). T (non_neg k) × Fits w32 (nat_abs k)) (sym (masked c.args.z c.ranges.z))
     (tt, record { fits = mod32-lt c.args.z })
@@ -27,5 +27,5 @@ cast-result c =
 returns : tie.Need-returns
 returns c = ap nat_abs (masked c.args.z c.ranges.z)
 
-pub low32-spec : {M : Type 1} → statement M
-low32-spec = tie.close (tie.spec cast-result returns)
+pub low32_spec : {M : Type 1} → statement M
+low32_spec = tie.close (tie.spec cast-result returns)
