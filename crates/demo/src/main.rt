@@ -2,8 +2,8 @@
 #![tactic(auto)]
 ghost use Rattle.std.specs.Prelude.{◌<◌, ◌≡◌, length};
 
-use libc::STDOUT_FILENO;
 use rules::{Plane, Screen, Triangle, Vertices};
+use std::io;
 
 // A plane that has the same value everywhere.
 fn flat(value: i32) -> Plane {
@@ -65,16 +65,17 @@ fn digits(part: &[u8]) -> [u8; 17]
 }
 
 // Writes the four rows.
-fn show(ram: &[u8], s: Screen) {
+fn show(rt: &impl Print, ram: &[u8], s: Screen) -> io::Result<()> {
     let mut y: u32 = 0;
     while y < 4 {
         let line = digits(reader::row(ram, s, y));
-        io::write_all(STDOUT_FILENO, &line);
+        rt.write_all(&line)?;
         y += 1;
     }
+    Ok(())
 }
 
-fn main() {
+fn main(rt: HostRuntime) -> io::Result<()> {
     let s = Screen {
         colour: 0,
         depth: 128,
@@ -82,5 +83,5 @@ fn main() {
     };
     let mut ram = [0u8; 256];
     paint(&mut ram, s);
-    show(&ram, s);
+    show(&rt, &ram, s)
 }
