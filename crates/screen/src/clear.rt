@@ -32,6 +32,7 @@ fn fill_areas(ram: &mut [u8], s: Screen, colour: u16, depth: u16)
     fill(ram, s.depth as usize, count, depth);
 }
 
+#[tactic(auto, using(crate::proofs::Fills::refused))]
 pub fn clear(ram: &mut [u8], s: Screen, colour: u16, depth: u16) -> u32
     ensures { Clears ram.old s (pixel colour depth) result ram.new }
 {
