@@ -1,5 +1,6 @@
 // The machine's state as C has it: a flag or a mark is a number, 0 for no and any other for yes, so that every pattern of bits is a state.
 #![tactic(auto)]
+
 ghost use Rattle.std.specs.Prelude.{◌≡◌};
 ghost use Rattle.border.specs.Lent.{number_of, marks_of, bytes_of, tree_of, lent_tree, state_of, lent_state};
 

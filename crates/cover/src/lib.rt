@@ -1,5 +1,6 @@
 // Which pixels of a row a triangle covers.
 #![tactic(auto)]
+
 pub mod crossed;
 pub mod points;
 pub mod setup;

@@ -1,5 +1,6 @@
 // Which rows, or columns, a triangle can touch: those whose sample points lie between its vertices.
 #![tactic(auto)]
+
 ghost use Rattle.std.specs.Prelude.{◌≡◌, true, ℕ, ◌≤◌, ◌<◌, pos, nat_abs, ◌+ℤ◌, ◌≤ℤ◌};
 ghost use Rattle.rules.specs.Numbers.{vertex_in_range};
 ghost use Rattle.extent.specs.Extent.{Before, Beyond};

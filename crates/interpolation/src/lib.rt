@@ -1,5 +1,6 @@
 // What the plane through three values is given and answers, in the words of document 02. There is no code here.
 #![tactic(auto)]
+
 use rules::Plane;
 
 // A whole value at each of three vertices.

@@ -1,5 +1,6 @@
 // A tree's leaves by value: what TREESET, TREEIN and TREEVAL 1 to 3 make of them. A leaf's value is added up: no leaf needs a product.
 #![tactic(auto)]
+
 ghost use Rattle.std.specs.Prelude.{◌≡◌};
 ghost use Rattle.rules.specs.Triangles.{positive, negative};
 ghost use Rattle.instructions.specs.Words.{signed};
@@ -11,6 +12,7 @@ use screen::sizes::{height, width};
 use words::{product32, sum32};
 
 // TREESET's test of a place.
+#[tactic(auto, unfolding(instructions::specs::Tree::refuses_place))]
 pub fn refuses_place(s: Screen, column: u32, row: u32) -> bool
     ensures { result ≡ refuses_place s column row }
 {
@@ -87,6 +89,7 @@ pub fn tree_in(tree: Tree, a: u32, b: u32) -> Tree
 }
 
 // A colour with what the kind says replaced: 1 is red, 2 is green, and any other blue.
+#[tactic(auto, unfolding(instructions::specs::Tree::replaced, rules::specs::Triangles::top_half))]
 fn replaced(kind: u32, v: u32, c: u16) -> u16
     ensures { result ≡ replaced kind v c }
 {

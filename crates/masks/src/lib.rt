@@ -1,5 +1,6 @@
 // The masks of four groups of sixteen leaves that stand side by side.
 #![tactic(auto)]
+
 ghost use Rattle.std.specs.Prelude.{◌≡◌, ◌+◌, ◌*◌, ◌≤◌, ◌<◌};
 ghost use Rattle.std.specs.Int.Count.{ones};
 ghost use Rattle.masks.specs.Mask.{mask_of, MasksOf};

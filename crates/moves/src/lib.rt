@@ -1,5 +1,6 @@
 // READ and WRITE: their halts, and 16 words between the RAM and the data memory.
 #![tactic(auto)]
+
 ghost use Rattle.std.specs.Prelude.{◌+◌, ◌≤◌, ◌<◌, ◌≡◌, length};
 ghost use Rattle.instructions.specs.Moves.{words_read, words_written};
 ghost use Rattle.moves.specs.Halts.{move_halt};

@@ -1,5 +1,6 @@
 // The machine's state in the pieces in which a run holds it: the registers lent, a small struct that each step passes on, and what only the
 // instructions from SCRSET on touch.
 #![tactic(auto)]
+
 pub mod registers;
 pub mod state;

@@ -1,5 +1,6 @@
 // The planes' values at a pixel, two planes to a word of 64 bits, and their steps to the right.
 #![tactic(auto)]
+
 ghost use Rattle.std.specs.Prelude.{◌≡◌, ◌<◌, ◌≤◌};
 ghost use Rattle.planes.specs.Planes.{pair_of, pair_at, tints_at, tint_steps, tints_moved, tint_colour};
 

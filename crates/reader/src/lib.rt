@@ -1,5 +1,6 @@
 // The row reader: the number of a request, where a row's own bytes stand, and the bytes themselves, of colours and of depths.
 #![tactic(auto)]
+
 ghost use Rattle.std.specs.Prelude.{◌+◌, ◌≤◌, length};
 ghost use Rattle.rules.specs.Sizes.{colour_at, depth_at};
 ghost use Rattle.reader.specs.Parts.{IsPart, begins_at};

@@ -1,5 +1,6 @@
 // A state before it runs: a fresh one, whether one is ill-formed, and the number of a call with it.
 #![tactic(auto)]
+
 ghost use Rattle.std.specs.Prelude.{◌≡◌};
 ghost use Rattle.instructions.specs.Run.{ill_formed, machine_number};
 ghost use Rattle.instructions.specs.Calls.{Fresh};
@@ -9,6 +10,7 @@ use leaves::refuses_place;
 use rules::Screen;
 use screen::sizes::{sound, too_long};
 
+#[tactic(auto, unfolding(instructions::specs::Run::fresh_state))]
 pub fn fresh() -> State
     ensures { Fresh result }
 {
@@ -64,6 +66,7 @@ pub fn ill_formed(len: usize, state: State) -> bool
 }
 
 // The lowest number that applies.
+#[tactic(auto, unfolding(instructions::specs::Run::machine_number))]
 pub fn machine_number(program: usize, memory: usize, ram: usize, state: State) -> u32
     ensures { result ≡ machine_number program memory ram state }
 {

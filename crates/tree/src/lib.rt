@@ -1,5 +1,6 @@
 // What reads or writes the sixteen pixels under a tree: TREEVAL 0 and TREEPUT, leaf by leaf.
 #![tactic(auto)]
+
 ghost use Rattle.std.specs.Prelude.{◌+◌, ◌<◌, ◌≡◌, length};
 ghost use Rattle.instructions.specs.Tree.{tree_depth, tree_put};
 ghost use Rattle.tree.specs.Leaves.{Placed, halves, stored};
