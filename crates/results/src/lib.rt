@@ -1,5 +1,6 @@
 // The instructions that put a result of the registers in r1: LI, and ADD to ASRI.
 #![tactic(auto)]
+
 ghost use Rattle.std.specs.Prelude.{◌≡◌};
 ghost use Rattle.instructions.specs.Opcodes.{LI, ADD, SUB, MUL, MULF, RECP, AND, OR, XOR, NOT, LSL, LSR, ASR, LSLI, LSRI, ASRI};
 ghost use Rattle.instructions.specs.Words.{opcode};

@@ -1,5 +1,6 @@
 // Drawing a row of a triangle in lent memory: pixel, chunk, row, and a row of one column.
 #![tactic(auto)]
+
 pub mod chunks;
 pub mod lone;
 pub mod pixels;

@@ -1,0 +1,20 @@
+-- The operands are those of the registers, and so the result is the definition's.
+use mathlib.Core.Path.{◌≡◌, sym, ◌∙◌, ap₂}
+use native.Mathlib.Omega.{arith}
+use Rattle.instructions.specs.Opcodes.{ADD}
+use Rattle.instructions.specs.Words.{opcode}
+use Rattle.instructions.specs.Arithmetic.{sum}
+use Rattle.pieces.proofs.Results.{result-ADD}
+use Rattle.pieces.proofs.Joined.{register-result}
+use Rattle.results.proofs.do_add.Goals as goal
+
+pub returns : goal.returns
+returns c =
+    let a = c.args in
+    let e : opcode a.w ≡ ADD = c.requires.0 in
+    register-result a.regs.now a.cpu a.w _ _ _ (omega (arith, e), omega (arith, e))
+    (λ memory.
+    c.sum32-v.ensures
+    ∙ ap₂ sum c.in_r2.ensures c.in_r3.ensures
+    ∙ sym (result-ADD memory a.regs.now a.w e))
+    c.put_result.ensures
