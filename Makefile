@@ -7,7 +7,6 @@
 # It needs rt, gcc and cargo, and no network. All that it makes is under target/.
 
 PREFIX ?= /usr/local
-RT ?= rt
 VERSION := $(shell sed -n 's/^.define MERIKOHIN_VERSION "\(.*\)"/\1/p' include/merikohin.h)
 MAJOR := $(firstword $(subst ., ,$(VERSION)))
 MACHINE := $(shell uname -m)
@@ -22,7 +21,7 @@ PICTURES := target/picture.png target/edge.png target/half-pixel.png target/pane
 all: $(PICTURES) $(if $(filter x86_64,$(MACHINE)),$(SHARED))
 
 $(NATIVE)/libmerikohin.a: $(SOURCES)
-	$(RT) staticlib merikohin
+	tools/library
 	$(if $(filter x86_64,$(MACHINE)),,bridge/build)
 	touch $@
 

@@ -2,7 +2,7 @@
  * works out the four planes through them. The drawing is printed a character a
  * pixel, the brighter the fuller.
  *
- *     rt staticlib merikohin
+ *     tools/library
  *     gcc -Iinclude examples/c/shaded.c target/staticlib/libmerikohin.a -o target/shaded
  *     target/shaded
  */

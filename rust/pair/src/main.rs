@@ -1,7 +1,7 @@
 //! A first program over the engine: it clears a small screen, draws the pair of
 //! triangles that share an edge and prints each pixel's colour as a digit.
 //!
-//!     rt staticlib merikohin
+//!     tools/library
 //!     cd rust && cargo run --release --offline -p pair
 
 use merikohin::{Refusal, Screen, Triangle, Vertex};
