@@ -1,5 +1,6 @@
 // The jumps, and CALL. A likely form does what the plain one does, so the two share a function.
 #![tactic(auto)]
+
 ghost use Rattle.std.specs.Prelude.{◌+◌, ◌<◌, ◌≡◌, true};
 ghost use Rattle.rules.specs.Folds.{choose};
 ghost use Rattle.instructions.specs.Opcodes.{JMP, CALL, JEQ, JNE, JLT, JLE, JGT, JGE};

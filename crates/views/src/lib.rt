@@ -1,5 +1,6 @@
 // The instructions from SCRSET on, which alone touch the screen and the tree.
 #![tactic(auto)]
+
 ghost use Rattle.std.specs.Prelude.{◌+◌, ◌<◌, ◌≡◌, length};
 ghost use Rattle.instructions.specs.Opcodes.{SCRSET, CLS, TREESET, TREEIN, TREEVAL, TREEPUT};
 ghost use Rattle.instructions.specs.Words.{in_r1, in_r2, opcode, r1, with_register};

@@ -1,0 +1,37 @@
+-- A screen that is not sound is the halt 17; any other is set, and the tree is dropped.
+use mathlib.Core.Path.{◌≡◌, sym, ◌∙◌, ap}
+use mathlib.Core.Bool.{Bool, not}
+use native.Mathlib.Omega.{arith}
+use lib.ListN.{length}
+use Rattle.rules.specs.Folds.{choose}
+use Rattle.rules.specs.Sizes.{sound}
+use Rattle.instructions.specs.Halts.{screen_set}
+use Rattle.pieces.specs.Pieces.{joined}
+use Rattle.pieces.proofs.Cases.{case-SCRSET}
+use Rattle.views.proofs.Viewed.{view_stops, sets_screen}
+use Rattle.views.proofs.do_scrset.Goals as goal
+
+pub returns-then-not-sound : goal.returns-then-not-sound
+returns-then-not-sound c =
+    λ memory.
+    let a = c.args in
+    let sound-is : sound (length a.ram.now) (screen_set a.regs.now a.w) ≡ c.sound.result =
+    sym (c.sound.ensures ∙ ap (sound (length a.ram.now)) c.screen_set-screen.ensures) in
+    view_stops a.regs.now a.cpu a.view memory a.ram.now a.w 17 _ c.stop.ensures
+    (case-SCRSET (length a.ram.now) (joined a.regs.now a.cpu a.view) a.w c.requires.0
+    ∙ ap (λ (t : Bool). choose (not t) 17 0) sound-is
+    ∙ rw c.if-not-sound.true)
+    (λ q. omega (arith, q))
+
+pub returns : goal.returns
+returns c =
+    λ memory.
+    let a = c.args in
+    let sound-is : sound (length a.ram.now) (screen_set a.regs.now a.w) ≡ c.sound.result =
+    sym (c.sound.ensures ∙ ap (sound (length a.ram.now)) c.screen_set-screen.ensures) in
+    sets_screen a.regs.now a.cpu a.view memory a.ram.now a.w
+    (case-SCRSET (length a.ram.now) (joined a.regs.now a.cpu a.view) a.w c.requires.0
+    ∙ ap (λ (t : Bool). choose (not t) 17 0) sound-is
+    ∙ rw c.if-not-sound.false)
+    _ c.requires.0
+    (c.go.ensures ∙ rw (c.screened.ensures, c.screen_set-screen.ensures))
