@@ -1,4 +1,5 @@
 // Vertices in range, and edge values at pixels.
 #![tactic(auto)]
+
 pub mod ranges;
 pub mod values;

@@ -1,5 +1,6 @@
 // The machine's state, plain data by value, in the words of document 01.
 #![tactic(auto)]
+
 use rules::Screen;
 
 // A tree: its place, and for each of its sixteen leaves marks I and O, a colour and a depth; whether depths are held.
