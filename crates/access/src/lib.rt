@@ -1,5 +1,6 @@
 // The instructions that touch the data memory: LD, ST and DOT, and READ and WRITE between it and the RAM.
 #![tactic(auto)]
+
 ghost use Rattle.std.specs.Prelude.{◌<◌, ◌≡◌, length};
 ghost use Rattle.instructions.specs.Opcodes.{LD, ST, DOT, READ, WRITE};
 ghost use Rattle.instructions.specs.Words.{opcode};

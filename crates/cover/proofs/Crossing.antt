@@ -166,13 +166,6 @@ rising_either : {z : ℤ} {n : ℕ} (b : Bool) → Within n z → Within (1 + n)
 rising_either true w = within_sub (within_lit {n = 1} {z = negsuc 0} tt) w
 rising_either false w = within_le (omega arith) w
 
-pub scale_within : (d : ℤ) → Within 42949672960 (scale d)
-scale_within d = go (is_zero d)
-  where
-    go : (b : Bool) → Within 42949672960 (pos (unit * choose b 640 1))
-    go true = within_pos (omega arith)
-    go false = within_pos (omega arith)
-
 pub rising_within : (e : Edge) → EdgeWithin e → (y : ℕ) → y ≤ 512 → Within 419659778 (rising e 0 y)
 rising_within e w y h = rising_either (positive (dy e)) (sided_within e w 0 y (omega arith) h)
 

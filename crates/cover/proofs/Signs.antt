@@ -15,9 +15,6 @@ use Rattle.ints.proofs.Machine.{got_lit, Code, known, ◌⊟◌, word_of, meant,
 use Rattle.rules.specs.Triangles.{positive, is_zero, negative}
 use Rattle.cover.specs.Side.{scale}
 
-abbrev pub zero_c : Code w64
-zero_c = known (got_lit w64 0 tt)
-
 -- -1 - z
 abbrev pub opposed_c : Code w64 → Code w64
 opposed_c z = known (got_lit w64 18446744073709551615 tt) ⊟ z
@@ -61,13 +58,7 @@ read_below z f h = sym (below z) ∙ ap (λ (k : ℤ). lt_z k (pos 0)) (sym (to_
 pub code_above : (k : Code w64) (t : T (fine k)) {b : Bool} → lt_z (pos 0) (to_z w64 (word_of k)) ≡ b → positive (meant k) ≡ b
 code_above k t h = sym (above (meant k)) ∙ ap (lt_z (pos 0)) (sym (reads_as k t)) ∙ h
 
--- which of them say whether it is zero
-pub above_zero : (z : ℤ) → SFits w64 z → lt_z (pos 0) (to_z w64 (of_z w64 z)) ≡ true → is_zero z ≡ false
-above_zero z f h = (positive_only z (read_above z f h)).1
-
-pub below_zero : (z : ℤ) → SFits w64 z → lt_z (to_z w64 (of_z w64 z)) (pos 0) ≡ true → is_zero z ≡ false
-below_zero z f h = (negative_only z (read_below z f h)).1
-
+-- two of them say that it is zero
 pub neither_zero : (z : ℤ) → SFits w64 z
     → lt_z (pos 0) (to_z w64 (of_z w64 z)) ≡ false
     → lt_z (to_z w64 (of_z w64 z)) (pos 0) ≡ false
