@@ -1,5 +1,6 @@
 // Clears a 16 by 4 screen, draws two triangles that share an edge, and writes each pixel's colour as a digit.
 #![tactic(auto)]
+
 ghost use Rattle.std.specs.Prelude.{◌<◌, ◌≡◌, length};
 
 use rules::{Plane, Screen, Triangle, Vertices};
