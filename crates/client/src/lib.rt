@@ -1,5 +1,6 @@
 // A client of the drawing: a screen cleared and two triangles drawn on it, by calls. Its proofs stand on published promises alone.
 #![tactic(auto)]
+
 ghost use Rattle.std.specs.Prelude.{◌≡◌, true, length};
 ghost use Rattle.rules.specs.Sizes.{pixel};
 ghost use Rattle.rules.specs.Numbers.{screen_number, vertex_in_range, vertices_in_range};

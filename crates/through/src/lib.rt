@@ -1,5 +1,6 @@
 // The plane through three values, one at each vertex of a triangle.
 #![tactic(auto)]
+
 ghost use Rattle.std.specs.Prelude.{◌≡◌, true};
 ghost use Rattle.rules.specs.Triangles.{doubled_area, sample};
 ghost use Rattle.rules.specs.Numbers.{in_signed32, vertices_in_range};

@@ -1,0 +1,19 @@
+-- The doubled area is `determinant` of the x's and the y's, as it stands.
+use native.Mathlib.Omega.{arith}
+use Rattle.rules.specs.Triangles.{doubled_area}
+use Rattle.through.proofs.Ranges.{vertices_within, area_within, answered, small, determinant-answer}
+use Rattle.through.proofs.doubled_area.Goals as goal
+
+pub determinant-requires : goal.determinant-requires
+determinant-requires c =
+    let w = vertices_within c.args.v c.requires in
+    (small w.x1 w.x2 w.x3 (omega arith), small w.y1 w.y2 w.y3 (omega arith))
+
+pub returns : goal.returns
+unfolding doubled_area
+returns c =
+    let w = vertices_within c.args.v c.requires in
+    answered
+    (determinant-answer c.determinant.ensures w.x1 w.x2 w.x3 w.y1 w.y2 w.y3 (omega arith) (omega arith))
+    (area_within c.args.v w)
+    tt
