@@ -1,5 +1,6 @@
 // Which samples a column has, the largest and the smallest of them, and the rows at which they stand.
 #![tactic(auto)]
+
 ghost use Rattle.std.specs.Prelude.{◌≡◌, true, ◌≤◌, ◌<◌, length, ◌≤ℤ◌};
 ghost use Rattle.waveform.specs.Panel.{good_waveform, row_of};
 ghost use Rattle.samples.specs.Reached.{Clamps, EndsBetween, LaterOf, Reaches, ◌≥ℤ◌};
