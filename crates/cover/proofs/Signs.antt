@@ -1,7 +1,7 @@
--- Signs of numbers: as the machine's tests against 0 read them, that a number has one, and what `in_ticks` makes of a number and of dy.
+-- Signs of numbers as the machine's tests against 0 read them, and what `in_ticks` makes of a number and of dy.
 use Prim.Native.Nat.{ℕ, zero, suc, ◌<◌}
 use mathlib.Core.Path.{◌≡◌, refl, sym, ◌∙◌, ap, ap₂, subst}
-use mathlib.Core.Bool.{Bool, true, false}
+use mathlib.Core.Bool.{Bool}
 use native.Mathlib.Omega.{arith}
 use lib.Dec.{T}
 use lib.IntN.{ℤ, pos, negsuc, ◌*ℤ◌}
@@ -12,7 +12,7 @@ use mir.ValLaws.{to_z-of_z}
 use borrow.Author.Tests.{lt-ltb, le-ltb}
 use Rattle.ints.proofs.Bounds.{Within, fits_64}
 use Rattle.ints.proofs.Machine.{got_lit, Code, known, ◌⊟◌, word_of, meant, fine, reads_as}
-use Rattle.rules.specs.Triangles.{positive, is_zero, negative}
+use Rattle.rules.specs.Triangles.{positive, negative}
 use Rattle.cover.specs.Side.{scale}
 
 -- -1 - z
@@ -30,23 +30,6 @@ pub below : (z : ℤ) → lt_z z (pos 0) ≡ negative z
 below (pos n) = le-ltb n 0 (omega arith)
 below (negsuc n) = refl
 
--- a number has one sign
-
-pub positive_only : (z : ℤ) → positive z ≡ true → (negative z ≡ false) × (is_zero z ≡ false)
-positive_only (pos zero) h = (refl, sym h)
-positive_only (pos (suc n)) h = (refl, refl)
-positive_only (negsuc n) h = (sym h, refl)
-
-pub negative_only : (z : ℤ) → negative z ≡ true → (positive z ≡ false) × (is_zero z ≡ false)
-negative_only (pos zero) h = (refl, sym h)
-negative_only (pos (suc n)) h = (sym h, refl)
-negative_only (negsuc n) h = (refl, refl)
-
-pub neither : (z : ℤ) → positive z ≡ false → negative z ≡ false → is_zero z ≡ true
-neither (pos zero) h k = refl
-neither (pos (suc n)) h k = sym h
-neither (negsuc n) h k = sym k
-
 -- one test of a machine number against 0, each way
 pub read_above : (z : ℤ) {b : Bool} → SFits w64 z → lt_z (pos 0) (to_z w64 (of_z w64 z)) ≡ b → positive z ≡ b
 read_above z f h = sym (above z) ∙ ap (lt_z (pos 0)) (sym (to_z-of_z w64 z f)) ∙ h
@@ -57,13 +40,6 @@ read_below z f h = sym (below z) ∙ ap (λ (k : ℤ). lt_z k (pos 0)) (sym (to_
 -- a test of a computed number against 0
 pub code_above : (k : Code w64) (t : T (fine k)) {b : Bool} → lt_z (pos 0) (to_z w64 (word_of k)) ≡ b → positive (meant k) ≡ b
 code_above k t h = sym (above (meant k)) ∙ ap (lt_z (pos 0)) (sym (reads_as k t)) ∙ h
-
--- two of them say that it is zero
-pub neither_zero : (z : ℤ) → SFits w64 z
-    → lt_z (pos 0) (to_z w64 (of_z w64 z)) ≡ false
-    → lt_z (to_z w64 (of_z w64 z)) (pos 0) ≡ false
-    → is_zero z ≡ true
-neither_zero z f h k = neither z (read_above z f h) (read_below z f k)
 
 -- what `in_ticks` makes of a number and of dy, as it reads both
 pub scaled_read : (d : Code w64) (t : T (fine d)) {v w : ℤ} {n : ℕ} → v ≡ w → Within n w → n < 9223372036854775808

@@ -10,6 +10,7 @@ use crate::{Side, Sides};
 use rules::Vertices;
 
 // What an edge's value loses where its zeros are outside.
+#[tactic(auto, unfolding(rules::specs::Triangles::keeps_zero))]
 pub fn loss(dx: i64, dy: i64) -> i64
     ensures { result ≡ loss dx dy }
 {
@@ -26,6 +27,7 @@ pub fn loss(dx: i64, dy: i64) -> i64
 }
 
 // An edge's value v, lowered, with the sign that makes it rise along a row.
+#[tactic(auto, unfolding(crate::specs::Side::lowered))]
 pub fn rising_value(v: i64, dx: i64, dy: i64) -> i64
     requires { nat_abs v ≤ 419659776 }
     ensures { result ≡ rising_value v dx dy }

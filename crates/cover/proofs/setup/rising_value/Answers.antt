@@ -19,12 +19,3 @@ returns-then-dy-gt0 c =
     let is-lowered : let a = c.args in meant lowered_c ≡ lowered a.v a.dx a.dy = ap (λ (z : ℤ). c.args.v -ℤ z) lost in
     rw (read_above c.args.dy c.ranges.dy c.if-dy-gt0.true)
     (reads_as (opposed_c lowered_c) tt ∙ ap (λ (z : ℤ). negsuc 0 -ℤ z) is-lowered)
-
-pub returns : goal.returns
-unfolding lowered
-returns c =
-    let lost : c.loss.result ≡ loss c.args.dx c.args.dy = c.loss.ensures ∙ ap₂ loss (to_z-of_z w64 c.args.dx c.ranges.dx) (to_z-of_z w64 c.args.dy c.ranges.dy) in
-    let lowered_c : Code w64 = known (got_arg c.ranges.v (record { within = c.requires }))
-    ⊟ known (got_in {b = 1} (subst (Within 1) (sym lost) (loss_within c.args.dx c.args.dy)) tt) in
-    let is-lowered : let a = c.args in meant lowered_c ≡ lowered a.v a.dx a.dy = ap (λ (z : ℤ). c.args.v -ℤ z) lost in
-    rw (read_above c.args.dy c.ranges.dy c.if-dy-gt0.false) (reads_as lowered_c tt ∙ is-lowered)
