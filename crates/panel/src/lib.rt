@@ -1,6 +1,7 @@
 // The waveform panel: a bar for each column of the screen, drawn by the drawing's call. Of the drawing its proofs know published promises
 // alone.
 #![tactic(auto)]
+
 ghost use Rattle.std.specs.Prelude.{◌≡◌, true, ◌<◌, length};
 ghost use Rattle.rules.specs.Sizes.{pixel, width};
 ghost use Rattle.waveform.specs.Panel.{Panels, good_offset, good_per_column, panel_number, waveform};
