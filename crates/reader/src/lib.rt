@@ -19,6 +19,7 @@ pub struct RowPart {
 }
 
 // 3 and 5 go first, as on every call that takes a screen.
+#[tactic(auto, using(crate::proofs::Checked::screen_decides, crate::proofs::Checked::row_passes, crate::proofs::Checked::row_refused))]
 pub fn row_check(ram: &[u8], s: Screen, row: u32) -> u32
     ensures { Checks (length ram.now) s row result }
 {
