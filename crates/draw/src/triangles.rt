@@ -13,6 +13,7 @@ use rules::{Drawn, Screen, Triangle};
 use screen::sizes::{height, screen_number, width};
 
 // The number that drawing this triangle answers.
+#[tactic(auto, using(crate::proofs::Refused::screen_decides, crate::proofs::Refused::vertices_refused, crate::proofs::Refused::size_asked, crate::proofs::Refused::size_refused, crate::proofs::Refused::all_passed))]
 fn triangle_number(len: usize, s: Screen, t: Triangle) -> u32
     ensures { result ≡ triangle_number len s t }
 {
@@ -41,6 +42,7 @@ fn answered(c: Counts) -> Drawn
 }
 
 // Draws a triangle, or refuses it with its number and changes nothing.
+#[tactic(auto, using(crate::proofs::Refused::refused_draws, crate::proofs::Refused::frame_asked, crate::proofs::Refused::narrow_asked, crate::proofs::Refused::done_draws))]
 pub fn draw(ram: &mut [u8], s: Screen, t: Triangle) -> Drawn
     ensures { Draws ram.old s t result ram.new }
 {

@@ -1,5 +1,6 @@
 // The machine's run: each step in turn, to the budget or to a halt.
 #![tactic(auto)]
+
 ghost use Rattle.alu.specs.Reciprocals.{Reciprocals};
 ghost use Rattle.pieces.specs.Pieces.{machine};
 ghost use Rattle.runs.specs.Runs.{Ends, Ready};
