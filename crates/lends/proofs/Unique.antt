@@ -1,7 +1,7 @@
 -- No second outcome meets what the machine's calls over a lent state promise: the state after is a value of the inputs, and so is
 -- what C has of it.
 use Prim.Native.Nat.{ℕ}
-use mathlib.Core.Path.{◌≡◌, sym, ◌∙◌, ap, ap₂}
+use mathlib.Core.Path.{◌≡◌, sym, ◌∙◌, ap}
 use mathlib.Core.List.{List}
 use Rattle.instructions.proofs.Unique.{runs_unique}
 use Rattle.border.specs.declared.LentState.{LentState}

@@ -1,5 +1,6 @@
 // A run over a state as C has it, and what a run and a single step answer.
 #![tactic(auto)]
+
 ghost use Rattle.lends.specs.Lends.{RunsLent, lent, run_outcome};
 
 use border::{LentState, lent_state, state_of};
