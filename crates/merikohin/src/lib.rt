@@ -1,5 +1,6 @@
 // The calls as C and Rust link them: include/merikohin.h declares each.
 #![tactic(auto)]
+
 ghost use Rattle.std.specs.Prelude.{length};
 ghost use Rattle.rules.specs.Sizes.{colour_at, depth_at, pixel};
 ghost use Rattle.rules.specs.Calls.{Clears, Draws};
