@@ -5,4 +5,4 @@ use Rattle.alu.proofs.reciprocals.recp.Goals as goal
 
 pub returns : goal.returns
 returns c =
-    entry-reciprocal c.requires c.args.a (omega (arith, c.if-d-eq0.false)) c.if-table-d.false
+    entry-reciprocal c.requires c.args.a (omega arith) c.if-table-d.false
