@@ -91,7 +91,7 @@ edge_asks : (e : Edge) → EdgeWithin e → (d : Side) (y m : ℕ) → y ≤ 480
     → inside e (sample x y) ≡ (d.ends || leb raise (unit * x + m)) && (not d.ends || ltb (unit * x + m) raise)
 edge_asks e v d y m n o h x l =
     crossing_inside e v y n m h x l
-    ∙ ap (λ (b : Bool). choose b (ltb (unit * x + m) raise) (leb raise (unit * x + m))) (sym o.is-ends)
+    ∙ ap (λ (b : Bool). choose b (ltb (unit * x + m) raise) (leb raise (unit * x + m))) (sym o.is_ends)
     ∙ asked d.ends (leb raise (unit * x + m)) (ltb (unit * x + m) raise)
 
 sorted : (a₁ b₁ a₂ b₂ a₃ b₃ : Bool)

@@ -46,7 +46,7 @@ down dx dy = choose (positive dy) (pos 0 -ℤ pos 8 *ℤ dx) (pos 8 *ℤ dx)
 
 pub record SideOf (e : Edge) (d : Side) : Type 0 where
   pub is_down : Rounded (scale (dy e) *ℤ down (dx e) (dy e)) (across (dy e)) lift 1 d.down
-  pub is-ends : d.ends ≡ positive (dy e)
+  pub is_ends : d.ends ≡ positive (dy e)
 
 pub record SidesOf (v : Vertices) (d : Sides) : Type 0 where
   pub of1 : SideOf (edge1 v) d.p

@@ -22,10 +22,10 @@ use Rattle.rows.proofs.Stretch.{not_written, pixel_still}
 use Rattle.rows.proofs.Rowed.{outside_uncovered}
 
 pub record Down (m₀ : List ℕ) (s : Screen) (t : Triangle) (d : Drawing) (y : ℕ) : Type 0 where
-  pub before-end : y ≤ height s.size
-  pub is-memory : d.ram ≡ upto (row_drawn t s) y m₀
-  pub is-covered : d.counts.covered ≡ pixels (covered t s) (width s.size) y
-  pub is-written : d.counts.written ≡ pixels (written t s m₀) (width s.size) y
+  pub before_end : y ≤ height s.size
+  pub is_memory : d.ram ≡ upto (row_drawn t s) y m₀
+  pub is_covered : d.counts.covered ≡ pixels (covered t s) (width s.size) y
+  pub is_written : d.counts.written ≡ pixels (written t s m₀) (width s.size) y
 
 -- the memory as it is lent, and nothing counted
 abbrev pub undrawn : List ℕ → Drawing
@@ -48,11 +48,11 @@ still_row l d h out =
 module _ {m₀ : List ℕ} {s : Screen} {t : Triangle} where
   down-none : Down m₀ s t (undrawn m₀) 0
   unfolding pixels
-  down-none = record { before-end = omega arith; is-memory = sym (upto-none (row_drawn t s) m₀); is-covered = refl; is-written = refl }
+  down-none = record { before_end = omega arith; is_memory = sym (upto-none (row_drawn t s) m₀); is_covered = refl; is_written = refl }
 
   module _ {d : Drawing} {y : ℕ} (u : Down m₀ s t d y) where
     pub length-down : length d.ram ≡ length m₀
-    length-down = ap length u.is-memory ∙ length_rows t s y m₀
+    length-down = ap length u.is_memory ∙ length_rows t s y m₀
 
     module _ (q : Sound (length m₀) s) where
       -- a screen's pixels can be counted
@@ -60,25 +60,25 @@ module _ {m₀ : List ℕ} {s : Screen} {t : Triangle} where
       room-down =
           let w = width s.size in
           record {
-            to_cover = omega (arith, u.is-covered, pixels-le (covered t s) w 640 y (width-le q), u.before-end, height-le q);
-            to_write = omega (arith, u.is-written, pixels-le (written t s m₀) w 640 y (width-le q), u.before-end, height-le q);
+            to_cover = omega (arith, u.is_covered, pixels-le (covered t s) w 640 y (width-le q), u.before_end, height-le q);
+            to_write = omega (arith, u.is_written, pixels-le (written t s m₀) w 640 y (width-le q), u.before_end, height-le q);
           }
 
       -- one row more
       pub down_more : y < height s.size → {d' : Drawing} → RowDone (line s t y) d d' → Down m₀ s t d' (y + 1)
       down_more h r =
           record {
-            before-end = omega arith;
-            is-memory = r.leaves ∙ ap (row_drawn t s y) u.is-memory ∙ sym (upto_more (row_drawn t s) y m₀);
-            is-covered = omega (arith, r.covers, u.is-covered, pixels_more (covered t s) (width s.size) y);
-            is-written =
+            before_end = omega arith;
+            is_memory = r.leaves ∙ ap (row_drawn t s y) u.is_memory ∙ sym (upto_more (row_drawn t s) y m₀);
+            is_covered = omega (arith, r.covers, u.is_covered, pixels_more (covered t s) (width s.size) y);
+            is_written =
                 omega (
                   arith,
                   r.writes,
-                  u.is-written,
+                  u.is_written,
                   how_many_same (λ x. written t s d.ram x y) (λ x. written t s m₀ x y) (width s.size)
                       (λ x l.
-                      ap (λ (n : List ℕ). written t s n x y) u.is-memory
+                      ap (λ (n : List ℕ). written t s n x y) u.is_memory
                       ∙ written_rows q t m₀ refl (record { across = l; down = h }) (omega arith)),
                   pixels_more (written t s m₀) (width s.size) y,
                 );
@@ -97,7 +97,7 @@ module _ {m₀ : List ℕ} {s : Screen} {t : Triangle} where
 
   down-last : {d : Drawing} → Down m₀ s t d (height s.size) → FrameDone m₀ s t d
   unfolding drawn
-  down-last u = record { covers = u.is-covered; writes = u.is-written; leaves = u.is-memory }
+  down-last u = record { covers = u.is_covered; writes = u.is_written; leaves = u.is_memory }
 
 -- from the first touched row on, and past the last one
 module _ {m₀ : List ℕ} {s : Screen} {t : Triangle} (q : Sound (length m₀) s) {r : Span}
@@ -112,6 +112,6 @@ module _ {m₀ : List ℕ} {s : Screen} {t : Triangle} (q : Sound (length m₀) 
   pub down_past : {d : Drawing} {y : ℕ} → Down m₀ s t d y → r.to ≤ y → FrameDone m₀ s t d
   down_past {d} {y} v h =
       let n = height s.size in
-      let e : y + (n - y) ≡ n = omega (arith, v.before-end) in
+      let e : y + (n - y) ≡ n = omega (arith, v.before_end) in
       down-last
       (subst (Down m₀ s t d) e (down_skip q v (n - y) (omega arith) (λ x j k l. u.beyond x j (omega arith) (omega arith))))

@@ -45,7 +45,7 @@ module _ (n : ℕ) (s : Screen) (t : Triangle) where
           → ◌≡◌ {A = ℕ} (choose (not b) 6 (choose (triangle_too_large t.vertices (width s.size) (height s.size)) 7 0)) 0
           → FrameAsked n s t
       go false q e = absurd (omega arith)
-      go true q e = record { is-sound = passed.0.is-sound; in_range = q }
+      go true q e = record { is_sound = passed.0.is_sound; in_range = q }
 
 -- the tests of `triangle_number` in the table's order: k is what the screen's answers
 module _ (n : ℕ) (s : Screen) (t : Triangle) (k : ℕ) (e : k ≡ screen_number n s) where
@@ -61,11 +61,11 @@ module _ (n : ℕ) (s : Screen) (t : Triangle) (k : ℕ) (e : k ≡ screen_numbe
     module _ (w h : ℕ) (f : b ≡ true) (p : w ≡ width s.size) (q : h ≡ height s.size) where
       pub size_asked : (vertices_in_range t.vertices ≡ true) × (1 ≤ w) × (w ≤ 640) × (1 ≤ h) × (h ≤ 512)
       size_asked =
-          let k = sound_facts (screen_number_passed (sym e ∙ z)).is-sound in (
+          let k = sound_facts (screen_number_passed (sym e ∙ z)).is_sound in (
             sym v ∙ f,
-            omega (arith, p, k.groups-low),
+            omega (arith, p, k.groups_low),
             omega (arith, p, width-le k),
-            omega (arith, q, k.height-low),
+            omega (arith, q, k.height_low),
             omega (arith, q, height-le k),
           )
 
@@ -89,7 +89,7 @@ module _ (n : ℕ) (s : Screen) (t : Triangle) (k : ℕ) (e : k ≡ triangle_num
 
   module _ (w : ℕ) (i : w ≡ width s.size) where
     pub column_asked : (vertices_in_range t.vertices ≡ true) × (w ≤ 640)
-    column_asked = (frame_asked.in_range, omega (arith, i, width-le (sound_facts frame_asked.is-sound)))
+    column_asked = (frame_asked.in_range, omega (arith, i, width-le (sound_facts frame_asked.is_sound)))
 
     pub narrow_asked : {x : ℕ} → LoneColumn t.vertices w x → x < w → NarrowAsked n s t x
     narrow_asked {x} l h =

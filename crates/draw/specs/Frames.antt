@@ -46,7 +46,7 @@ abbrev pub LoneColumn : Vertices → ℕ → ℕ → Type 0
 LoneColumn t w x = x < w → NothingBut t w x
 
 pub record FrameAsked (n : ℕ) (s : Screen) (t : Triangle) : Type 0 where
-  pub is-sound : sound n s ≡ true
+  pub is_sound : sound n s ≡ true
   pub in_range : vertices_in_range t.vertices ≡ true
 
 pub record NarrowAsked (n : ℕ) (s : Screen) (t : Triangle) (x : ℕ) : Type 0 where

@@ -102,7 +102,7 @@ pub record ByPowers (a k l r s : ℕ) : Type 0 where
   pub lost : ℕ
   pub times : a * 2 ^ k ≡ lost * 4294967296 + l
   pub over : RoundsDown (pos a) (pos (2 ^ k)) (pos r)
-  pub signed-over : RoundsDown (signed a) (pos (2 ^ k)) (signed s)
+  pub signed_over : RoundsDown (signed a) (pos (2 ^ k)) (signed s)
 
 -- a number in range is what its word is read as
 word_of : (z : ℤ) → mag z < 2147483648 → mod32 z ≡ of_z w32 z
@@ -126,7 +126,7 @@ by_powers a k l = record {
   lost = a * 2 ^ k / 4294967296;
   times = sym (split (a * 2 ^ k) 32);
   over = shr_z_rounds_down (pos a) (2 ^ k) (pow_pos k);
-  signed-over = rw (signed_quotient a k l) (shr_z_rounds_down (signed a) (2 ^ k) (pow_pos k));
+  signed_over = rw (signed_quotient a k l) (shr_z_rounds_down (signed a) (2 ^ k) (pow_pos k));
 }
 
 -- and no other three words do
@@ -136,7 +136,7 @@ by_powers_unique {a} {k} {l} {r} {s} {l'} {r'} {s'} f f' g g' =
     let h : pos 0 <ℤ pos (2 ^ k) = is_lt (is_pos 0) (is_pos (2 ^ k)) (omega (arith, pow_pos k)) in (
       sym (digits_mod g.lost g.word) ∙ ap keep32 (sym g.times ∙ g'.times) ∙ digits_mod g'.lost g'.word,
       pos_inj (rounds_to_one h g.over g'.over),
-      sym (back s f) ∙ ap (of_z w32) (rounds_to_one h g.signed-over g'.signed-over) ∙ back s' f',
+      sym (back s f) ∙ ap (of_z w32) (rounds_to_one h g.signed_over g'.signed_over) ∙ back s' f',
     )
   where
     back : (n : ℕ) → n < 4294967296 → of_z w32 (signed n) ≡ n

@@ -10,7 +10,7 @@ use Rattle.rules.specs.Numbers.{vertices_in_range, in_signed32}
 use Rattle.interpolation.specs.declared.Values.{Values}
 use Rattle.interpolation.specs.Interpolation.{through_c, through_a, through_b, plane_through, value_in_range, values_in_range}
 use Rattle.interpolation.specs.Interpolation.{plane_in_range, has_no_plane, through_number}
-use Rattle.interpolation.specs.Refusals.{HasPlane, Lacks, first-value, second-value, third-value, area}
+use Rattle.interpolation.specs.Refusals.{HasPlane, Lacks, first_value, second_value, third_value, area}
 use Rattle.interpolation.specs.Refusals.{c_outside, a_outside, b_outside}
 
 module _ (v : Vertices) (r : Values) where
@@ -28,9 +28,9 @@ module _ (v : Vertices) (r : Values) where
       → in_signed32 (through_a v r) ≡ a
       → in_signed32 (through_b v r) ≡ b
       → Says (not (f && s && t) || not d || not (c && a && b))
-  told false s t d c a b p q u h i j k = first-value p
-  told true false t d c a b p q u h i j k = second-value q
-  told true true false d c a b p q u h i j k = third-value u
+  told false s t d c a b p q u h i j k = first_value p
+  told true false t d c a b p q u h i j k = second_value q
+  told true true false d c a b p q u h i j k = third_value u
   told true true true false c a b p q u h i j k = area h
   told true true true true false a b p q u h i j k = c_outside i
   told true true true true true false b p q u h i j k = a_outside j
@@ -48,9 +48,9 @@ module _ (v : Vertices) (r : Values) where
       refl refl refl refl refl refl refl
 
   not_both : HasPlane v r → Lacks v r → ⊥
-  not_both h (first-value e) = false≢true (sym e ∙ h.first)
-  not_both h (second-value e) = false≢true (sym e ∙ h.second)
-  not_both h (third-value e) = false≢true (sym e ∙ h.third)
+  not_both h (first_value e) = false≢true (sym e ∙ h.first)
+  not_both h (second_value e) = false≢true (sym e ∙ h.second)
+  not_both h (third_value e) = false≢true (sym e ∙ h.third)
   not_both h (area e) = false≢true (sym e ∙ h.area)
   not_both h (c_outside e) = false≢true (sym e ∙ h.c)
   not_both h (a_outside e) = false≢true (sym e ∙ h.a)

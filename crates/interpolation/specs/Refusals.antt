@@ -18,9 +18,9 @@ pub record HasPlane (v : Vertices) (r : Values) : Type 0 where
 
 -- one part of 9
 pub data Lacks (v : Vertices) (r : Values) : Type 0 where
-  first-value : value_in_range r.r1 ≡ false → Lacks v r
-  second-value : value_in_range r.r2 ≡ false → Lacks v r
-  third-value : value_in_range r.r3 ≡ false → Lacks v r
+  first_value : value_in_range r.r1 ≡ false → Lacks v r
+  second_value : value_in_range r.r2 ≡ false → Lacks v r
+  third_value : value_in_range r.r3 ≡ false → Lacks v r
   area : positive (doubled_area v) ≡ false → Lacks v r
   c_outside : in_signed32 (through_c v r) ≡ false → Lacks v r
   a_outside : in_signed32 (through_a v r) ≡ false → Lacks v r

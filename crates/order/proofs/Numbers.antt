@@ -21,8 +21,8 @@ use Rattle.edges.proofs.Large.{triangle_never_too_large}
 pub screen-accepted : (n : ℕ) (s : Screen) → (screen_number n s ≡ 0) ↔ ((too_long n ≡ false) × (sound n s ≡ true))
 unfolding screen_number
 screen-accepted n s = (
-  λ e. let p = screen_number_passed e in (p.fits, p.is-sound),
-  λ h. others_follow n s 0 (record { fits = h.0; is-sound = h.1 }),
+  λ e. let p = screen_number_passed e in (p.fits, p.is_sound),
+  λ h. others_follow n s 0 (record { fits = h.0; is_sound = h.1 }),
 )
 
 -- row 0 is a row of every sound screen
@@ -36,7 +36,7 @@ first_row_number n s = go (too_long n) (sound n s) refl
     go : (a b : Bool) → sound n s ≡ b → numbered a b (choose (not (ltb 0 (height s.size))) 8 0) ≡ numbered a b 0
     go true b e = refl
     go false false e = refl
-    go false true e = rw (lt-ltb 0 (height s.size) (sound_facts e).height-low)
+    go false true e = rw (lt-ltb 0 (height s.size) (sound_facts e).height_low)
 
 -- a triangle's number is the screen's; where that is 0, it is 0 or 6
 

@@ -53,8 +53,8 @@ module _
     depth_is : tint_depth v ≡ new_depth
     depth_is = ap tint_depth tints ∙ tint_depth_lem l.triangle x l.row across down
 
-    colour-is : tint_colour v ≡ new_colour
-    colour-is = ap tint_colour tints ∙ tint_colour_lem l.triangle x l.row across down
+    colour_is : tint_colour v ≡ new_colour
+    colour_is = ap tint_colour tints ∙ tint_colour_lem l.triangle x l.row across down
 
     judged : (m : List ℕ) → passes m depth_here v ≡ written_in l m x
     unfolding written
@@ -65,7 +65,7 @@ module _
         ≡ choose p (put_pixel l.screen x l.row new_colour new_depth m) m
     unfolding put_pixel
     put_is m p =
-        ap₂ (λ (d c : ℕ). choose p (store_half (store_half m depth_here d) colour_here c) m) depth_is colour-is
+        ap₂ (λ (d c : ℕ). choose p (store_half (store_half m depth_here d) colour_here c) m) depth_is colour_is
         ∙ ap (λ (k : List ℕ). choose p k m)
         (store_half-comm m depth_here new_depth colour_here new_colour (apart_sym (colour_depth_apart facts lies_on_screen lies_on_screen)))
 

@@ -40,7 +40,7 @@ module _ {l : Line} {a : ℕ} {m : Masks} {d : Drawing} (q : ChunkAsked l a m d)
   pub word_asked : {wide : ℕ} → wide ≡ ((m.one * 65536 + m.two) * 65536 + m.three) * 65536 + m.four → WordAsked l a wide (writing_of d)
   word_asked e =
       record {
-        is-sound = q.is-sound;
+        is_sound = q.is_sound;
         row = q.row;
         says = e ∙ masks-joined (λ k. covered_in l (chunk_at a + k)) q.masks;
         begins = q.begins;
@@ -73,9 +73,9 @@ in_chunk h (l, k, inr e) = (omega arith, l)
 pub record Across (l : Line) (from : ℕ) (d₀ d : Drawing) (a : ℕ) : Type 0 where
   pub begun : from ≤ a
   pub at_chunk : (a ≡ from) ⊎ (a % 16 ≡ 0)
-  pub is-memory : d.ram ≡ upto (drawn_in l) a d₀.ram
-  pub is-covered : d.counts.covered ≡ d₀.counts.covered + how_many (covered_in l) a
-  pub is-written : d.counts.written ≡ d₀.counts.written + how_many (written_in l d₀.ram) a
+  pub is_memory : d.ram ≡ upto (drawn_in l) a d₀.ram
+  pub is_covered : d.counts.covered ≡ d₀.counts.covered + how_many (covered_in l) a
+  pub is_written : d.counts.written ≡ d₀.counts.written + how_many (written_in l d₀.ram) a
 
 module _ {l : Line} {from to : ℕ} {d₀ : Drawing} (q : RowAsked l (span from to) d₀) where
   within : (x : ℕ) → from ≤ x → x < to → covered_in l x ≡ true
@@ -114,21 +114,21 @@ module _ {l : Line} {from to : ℕ} {d₀ : Drawing} (q : RowAsked l (span from 
       record {
         begun = omega arith;
         at_chunk = inl refl;
-        is-memory = sym (upto_still (drawn_in l) from m (λ x h. pixel_still l x m (before x h)));
-        is-covered = omega (arith, how_many-none (covered_in l) from before);
-        is-written = omega (arith, how_many-none (written_in l m) from (λ x h. not_written l m x (before x h)));
+        is_memory = sym (upto_still (drawn_in l) from m (λ x h. pixel_still l x m (before x h)));
+        is_covered = omega (arith, how_many-none (covered_in l) from before);
+        is_written = omega (arith, how_many-none (written_in l m) from (λ x h. not_written l m x (before x h)));
       }
 
   module _ {d : Drawing} {a : ℕ} (u : Across l from d₀ d a) where
     pub length-across : length d.ram ≡ length d₀.ram
     length-across =
-        ap length u.is-memory
+        ap length u.is_memory
         ∙ upto-keeps (drawn_in l) (λ (k : List ℕ). length k ≡ length d₀.ram) a d₀.ram
         (λ i k h e. length-pixel l.triangle l.screen l.row i k ∙ e) refl
 
     module _ (h : a < to) where
       pub short : a < 640
-      short = omega (arith, h, q.limited, width-le (sound_facts q.is-sound))
+      short = omega (arith, h, q.limited, width-le (sound_facts q.is_sound))
 
       no_earlier : (x : ℕ) → chunk_at a ≤ x → x < a → covered_in l x ≡ false
       no_earlier x k i = go u.at_chunk
@@ -144,15 +144,15 @@ module _ {l : Line} {from to : ℕ} {d₀ : Drawing} (q : RowAsked l (span from 
           → ChunkAsked l a k d
       chunk_asked {past} p e =
           record {
-            is-sound = subst (λ (n : ℕ). sound n l.screen ≡ true) (sym length-across) q.is-sound;
+            is_sound = subst (λ (n : ℕ). sound n l.screen ≡ true) (sym length-across) q.is_sound;
             row = q.row;
             masks = masks_same (in_span (a % 16) past) (λ j. covered_in l (chunk_at a + j)) same e;
             begins = within a u.begun h;
             no_earlier = no_earlier;
             room =
                 record {
-                  to_cover = omega (arith, u.is-covered, how_many-le (covered_in l) a, short, q.room.to_cover);
-                  to_write = omega (arith, u.is-written, how_many-le (written_in l d₀.ram) a, short, q.room.to_write);
+                  to_cover = omega (arith, u.is_covered, how_many-le (covered_in l) a, short, q.room.to_cover);
+                  to_write = omega (arith, u.is_written, how_many-le (written_in l d₀.ram) a, short, q.room.to_write);
                 };
           }
         where
@@ -181,27 +181,27 @@ module _ {l : Line} {from to : ℕ} {d₀ : Drawing} (q : RowAsked l (span from 
         record {
           begun = omega (arith, u.begun);
           at_chunk = inr (omega arith);
-          is-memory =
+          is_memory =
               c.leaves
-              ∙ ap (upto (λ k. drawn_in l (a + k)) (chunk_from a)) u.is-memory
+              ∙ ap (upto (λ k. drawn_in l (a + k)) (chunk_from a)) u.is_memory
               ∙ sym (upto_add (drawn_in l) a (chunk_from a) d₀.ram)
               ∙ ap (λ (n : ℕ). upto (drawn_in l) n d₀.ram) next;
-          is-covered =
+          is_covered =
               omega (
                 arith,
                 c.covers,
-                u.is-covered,
+                u.is_covered,
                 how_many-add (covered_in l) a (chunk_from a),
                 ap (how_many (covered_in l)) next,
               );
-          is-written =
+          is_written =
               let m = d₀.ram in
               omega (
                 arith,
                 c.writes,
                 how_many_same (λ k. written_in l d.ram (a + k)) (λ k. written_in l m (a + k)) (chunk_from a)
                     (λ k i. as_before (a + k) (omega arith)),
-                u.is-written,
+                u.is_written,
                 how_many-add (written_in l m) a (chunk_from a),
                 ap (how_many (written_in l m)) next,
               );
@@ -216,8 +216,8 @@ module _ {l : Line} {from to : ℕ} {d₀ : Drawing} (q : RowAsked l (span from 
           where
             go : (b : Bool) → covered_in l x ≡ b → written_in l d.ram x ≡ written_in l d₀.ram x
             go true e =
-                ap (λ (n : List ℕ). written_in l n x) u.is-memory
-                ∙ written-left (sound_facts q.is-sound) l.triangle d₀.ram refl (covered_on l e) i
+                ap (λ (n : List ℕ). written_in l n x) u.is_memory
+                ∙ written-left (sound_facts q.is_sound) l.triangle d₀.ram refl (covered_on l e) i
             go false e = not_written l d.ram x e ∙ sym (not_written l d₀.ram x e)
 
     pub across-last : to ≤ a → RowDone l d₀ d
@@ -227,10 +227,10 @@ module _ {l : Line} {from to : ℕ} {d₀ : Drawing} (q : RowAsked l (span from 
         record {
           covers =
               let f : ℕ → Bool = covered_in l in
-              omega (arith, u.is-covered, to_span f beyond a h, to_span f beyond w q.limited);
+              omega (arith, u.is_covered, to_span f beyond a h, to_span f beyond w q.limited);
           writes =
               let f : ℕ → Bool = written_in l d₀.ram in
               let none : (x : ℕ) → to ≤ x → f x ≡ false = λ x i. not_written l d₀.ram x (beyond x i) in
-              omega (arith, u.is-written, to_span f none a h, to_span f none w q.limited);
-          leaves = u.is-memory ∙ drawn-span a h ∙ sym (drawn-span w q.limited);
+              omega (arith, u.is_written, to_span f none a h, to_span f none w q.limited);
+          leaves = u.is_memory ∙ drawn-span a h ∙ sym (drawn-span w q.limited);
         }

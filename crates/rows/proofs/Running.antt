@@ -43,14 +43,14 @@ next past tints on = record { past = past; tints = tints; on = on }
 
 pub record Pass (l : Line) (x : ℕ) (w₀ w : Writing) (n : Next) : Type 0 where
   pub in_chunk : n.past ≤ chunk_from x
-  pub is-left : Left (λ j. covered_in l (x + (n.past + j))) (chunk_from x - n.past) n.on
+  pub is_left : Left (λ j. covered_in l (x + (n.past + j))) (chunk_from x - n.past) n.on
   pub is_tints : n.tints ≡ tints_at l.triangle (x + n.past) l.row
-  pub is-memory : w.ram ≡ stretch l x n.past w₀.ram
-  pub is-written : w.count ≡ w₀.count + how_many (λ i. written_in l w₀.ram (x + i)) n.past
+  pub is_memory : w.ram ≡ stretch l x n.past w₀.ram
+  pub is_written : w.count ≡ w₀.count + how_many (λ i. written_in l w₀.ram (x + i)) n.past
 
 module _ {l : Line} {x wide : ℕ} {w₀ : Writing} (q : WordAsked l x wide w₀) where
   facts : Sound (length w₀.ram) l.screen
-  facts = sound_facts q.is-sound
+  facts = sound_facts q.is_sound
 
   -- the columns before x are shifted out
   pub pass_first : {v : Tints} → v ≡ tints_at l.triangle x l.row → Pass l x w₀ w₀ (next 0 v (wide * 2 ^ (x % 16) % 2 ^ 64))
@@ -58,7 +58,7 @@ module _ {l : Line} {x wide : ℕ} {w₀ : Writing} (q : WordAsked l x wide w₀
       let all : chunk_from x ≡ chunk_from x - 0 = omega arith in
       record {
         in_chunk = omega arith;
-        is-left =
+        is_left =
             subst (λ (n : ℕ). Left (λ j. covered_in l (x + (0 + j))) n (wide * 2 ^ (x % 16) % 2 ^ 64)) all
             (ap (λ (n : ℕ). n * 2 ^ (x % 16) % 2 ^ 64) q.says
             ∙ left_skip (λ k. covered_in l (chunk_at x + k)) (x % 16) (omega arith)
@@ -66,13 +66,13 @@ module _ {l : Line} {x wide : ℕ} {w₀ : Writing} (q : WordAsked l x wide w₀
             (mask_same (λ k. covered_in l (chunk_at x + (x % 16 + k))) (λ j. covered_in l (x + (0 + j))) (chunk_from x)
             (λ k h. let i : chunk_at x + (x % 16 + k) ≡ x + (0 + k) = omega arith in ap (covered_in l) i)));
         is_tints = e ∙ ap (λ (n : ℕ). tints_at l.triangle n l.row) (sym (add-zero x));
-        is-memory = sym (upto-none (λ k. drawn_in l (x + k)) w₀.ram);
-        is-written = omega (arith, how_many-none (λ i. written_in l w₀.ram (x + i)) 0 (λ i h. absurd (omega arith)));
+        is_memory = sym (upto-none (λ k. drawn_in l (x + k)) w₀.ram);
+        is_written = omega (arith, how_many-none (λ i. written_in l w₀.ram (x + i)) 0 (λ i h. absurd (omega arith)));
       }
 
   module _ {w : Writing} {k on : ℕ} {v : Tints} (u : Pass l x w₀ w (next k v on)) where
     pub length_now : length w.ram ≡ length w₀.ram
-    length_now = ap length u.is-memory ∙ length_stretch l x k w₀.ram
+    length_now = ap length u.is_memory ∙ length_stretch l x k w₀.ram
 
     -- once the top bit is clear, no pixel of the chunk is left: a row's covered pixels have no gap
     module _ (h : on < 9223372036854775808) where
@@ -80,7 +80,7 @@ module _ {l : Line} {x wide : ℕ} {w₀ : Writing} (q : WordAsked l x wide w₀
       none_left i j = go (covered_in l (x + (k + i))) refl
         where
           here : covered_in l (x + (k + 0)) ≡ false
-          here = top_clear (λ j. covered_in l (x + (k + j))) (chunk_from x - k) on (omega arith) u.is-left h (omega arith)
+          here = top_clear (λ j. covered_in l (x + (k + j))) (chunk_from x - k) on (omega arith) u.is_left h (omega arith)
 
           no_gap : covered_in l (x + (k + i)) ≡ true → covered_in l (x + (k + 0)) ≡ true
           no_gap = unbroken l.triangle l.screen x (x + (k + 0)) (x + (k + i)) l.row (omega arith) (omega arith) q.begins
@@ -99,13 +99,13 @@ module _ {l : Line} {x wide : ℕ} {w₀ : Writing} (q : WordAsked l x wide w₀
             counts =
                 omega (
                   arith,
-                  u.is-written,
+                  u.is_written,
                   ap (how_many f) e,
                   how_many-add f k (n - k),
                   how_many-none (λ i. f (k + i)) (n - k) (λ i j. not_written l m (x + (k + i)) (none_left i j)),
                 );
             leaves =
-                u.is-memory
+                u.is_memory
                 ∙ sym (ap (λ (i : ℕ). stretch l x i m) (sym e)
                 ∙ upto_add (λ i. drawn_in l (x + i)) k (n - k) m
                 ∙ upto_still (λ i. drawn_in l (x + (k + i))) (n - k) (stretch l x k m)
@@ -116,7 +116,7 @@ module _ {l : Line} {x wide : ℕ} {w₀ : Writing} (q : WordAsked l x wide w₀
     module _ (h : 9223372036854775808 ≤ on) where
       top : (0 < chunk_from x - k) × (covered_in l (x + (k + 0)) ≡ true)
           × Left (λ j. covered_in l (x + (k + (1 + j)))) (chunk_from x - k - 1) (on * 2 % 2 ^ 64)
-      top = top_set (λ j. covered_in l (x + (k + j))) (chunk_from x - k) on (omega arith) u.is-left h
+      top = top_set (λ j. covered_in l (x + (k + j))) (chunk_from x - k) on (omega arith) u.is_left h
 
       pub some_left : k < chunk_from x
       some_left = omega (arith, top.0)
@@ -128,7 +128,7 @@ module _ {l : Line} {x wide : ℕ} {w₀ : Writing} (q : WordAsked l x wide w₀
       lies_on_screen = covered_on l here
 
       pub few-written : w.count < 4294967295
-      few-written = omega (arith, u.is-written, how_many-le (λ i. written_in l w₀.ram (x + i)) k, q.room, some_left)
+      few-written = omega (arith, u.is_written, how_many-le (λ i. written_in l w₀.ram (x + i)) k, q.room, some_left)
 
       pub pass_more : {w' : Writing} {v' : Tints}
           → PixelDone (colour_at l.screen (x + k) l.row) (depth_at l.screen (x + k) l.row) v w w'
@@ -140,7 +140,7 @@ module _ {l : Line} {x wide : ℕ} {w₀ : Writing} (q : WordAsked l x wide w₀
           let n : chunk_from x - k - 1 ≡ chunk_from x - (k + 1) = omega arith in
           record {
             in_chunk = omega (arith, some_left);
-            is-left =
+            is_left =
                 subst (λ (j : ℕ). Left (λ j. covered_in l (x + (k + 1 + j))) j (on * 2 % 2 ^ 64)) n
                 (top.2
                 ∙ ap (λ (j : ℕ). j * 2 ^ (64 - (chunk_from x - k - 1)))
@@ -151,19 +151,19 @@ module _ {l : Line} {x wide : ℕ} {w₀ : Writing} (q : WordAsked l x wide w₀
                 ∙ ap (λ (z : Tints). tints_moved z (tint_steps t)) u.is_tints
                 ∙ tints_right t (x + k) l.row
                 ∙ ap (λ (n : ℕ). tints_at t n l.row) i;
-            is-memory =
+            is_memory =
                 pixel-leaves l (x + k) facts here u.is_tints d
-                ∙ ap (drawn_in l (x + k)) u.is-memory
+                ∙ ap (drawn_in l (x + k)) u.is_memory
                 ∙ sym (upto_more (λ j. drawn_in l (x + j)) k w₀.ram);
-            is-written =
+            is_written =
                 let b : bit (written_in l w.ram (x + k)) ≡ bit (written_in l w₀.ram (x + k)) =
                 ap bit
-                (ap (λ (n : List ℕ). written_in l n (x + k)) u.is-memory
+                (ap (λ (n : List ℕ). written_in l n (x + k)) u.is_memory
                 ∙ written_stretch l facts w₀.ram refl x k k lies_on_screen (omega arith)) in
                 omega (
                   arith,
                   pixel-counts l (x + k) facts here u.is_tints d,
-                  u.is-written,
+                  u.is_written,
                   how_many_more (λ j. written_in l w₀.ram (x + j)) k,
                 );
           }

@@ -28,7 +28,7 @@ chunk_from a = 64 - a % 16
 
 -- the bits of the word of 64 are the covered pixels of a's chunk, and a's is set
 pub record WordAsked (l : Line) (a wide : ℕ) (before : Writing) : Type 0 where
-  pub is-sound : sound (length before.ram) l.screen ≡ true
+  pub is_sound : sound (length before.ram) l.screen ≡ true
   pub row : l.row < height l.screen.size
   pub says : wide ≡ mask_of (λ k. covered_in l (chunk_at a + k)) 64
   pub begins : covered_in l a ≡ true

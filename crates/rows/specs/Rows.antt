@@ -18,7 +18,7 @@ pub record Room (c : Counts) (k : ℕ) : Type 0 where
 
 -- each group's mask has its covered pixels; a is the first of them
 pub record ChunkAsked (l : Line) (a : ℕ) (m : Masks) (before : Drawing) : Type 0 where
-  pub is-sound : sound (length before.ram) l.screen ≡ true
+  pub is_sound : sound (length before.ram) l.screen ≡ true
   pub row : l.row < height l.screen.size
   pub masks : MasksOf (λ k. covered_in l (chunk_at a + k)) m
   pub begins : covered_in l a ≡ true
@@ -32,7 +32,7 @@ pub record ChunkDone (l : Line) (a : ℕ) (before after : Drawing) : Type 0 wher
 
 -- the row's covered pixels are those of the span
 pub record RowAsked (l : Line) (columns : Span) (before : Drawing) : Type 0 where
-  pub is-sound : sound (length before.ram) l.screen ≡ true
+  pub is_sound : sound (length before.ram) l.screen ≡ true
   pub row : l.row < height l.screen.size
   pub ordered : columns.from ≤ columns.to
   pub limited : columns.to ≤ width l.screen.size
@@ -41,7 +41,7 @@ pub record RowAsked (l : Line) (columns : Span) (before : Drawing) : Type 0 wher
 
 -- of the row pixel x alone can be covered, and is where `on` says so
 pub record LoneAsked (l : Line) (x : ℕ) (on : Bool) (before : Drawing) : Type 0 where
-  pub is-sound : sound (length before.ram) l.screen ≡ true
+  pub is_sound : sound (length before.ram) l.screen ≡ true
   pub row : l.row < height l.screen.size
   pub across : x < width l.screen.size
   pub here : covered_in l x ≡ on

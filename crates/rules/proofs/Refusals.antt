@@ -12,7 +12,7 @@ use Rattle.rules.specs.Numbers.{too_long, after_screen, screen_number}
 -- neither 3 nor 5 applies
 pub record ScreenPasses (n : ℕ) (s : Screen) : Type 0 where
   pub fits : too_long n ≡ false
-  pub is-sound : sound n s ≡ true
+  pub is_sound : sound n s ≡ true
 
 module _ (n : ℕ) (s : Screen) (others : ℕ) where
   pub screen_passed : after_screen n s others ≡ 0 → ScreenPasses n s × (others ≡ 0)
@@ -21,10 +21,10 @@ module _ (n : ℕ) (s : Screen) (others : ℕ) where
       go : (a b : Bool) → too_long n ≡ a → sound n s ≡ b → choose a 3 (choose (not b) 5 others) ≡ 0 → ScreenPasses n s × (others ≡ 0)
       go true b p q e = absurd (omega arith)
       go false false p q e = absurd (omega arith)
-      go false true p q e = (record { fits = p; is-sound = q }, e)
+      go false true p q e = (record { fits = p; is_sound = q }, e)
 
   pub others_follow : ScreenPasses n s → after_screen n s others ≡ others
-  others_follow p = rw (p.fits, p.is-sound)
+  others_follow p = rw (p.fits, p.is_sound)
 
   pub screen_refuses : screen_number n s ≢ 0 → screen_number n s ≡ after_screen n s others
   unfolding screen_number

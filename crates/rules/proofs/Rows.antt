@@ -27,5 +27,5 @@ accepted-row {at} a n s row e = go (ltb row (height s.size)) refl passed.1
     go false q k = absurd (omega arith)
     go true q k = record {
       follow = λ x. a.in_row s x row;
-      fits = row_fits a (sound_facts passed.0.is-sound) (ltb-true row (height s.size) q);
+      fits = row_fits a (sound_facts passed.0.is_sound) (ltb-true row (height s.size) q);
     }

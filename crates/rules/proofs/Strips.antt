@@ -26,18 +26,18 @@ Other x y x' y' = (x' ≢ x) ⊎ (y' ≢ y)
 
 -- two areas apart, in plain facts
 pub record Areas (n : ℕ) (s : Screen) : Type 0 where
-  pub colour-start : s.colour % 2 ≡ 0
-  pub depth-start : s.depth % 2 ≡ 0
+  pub colour_start : s.colour % 2 ≡ 0
+  pub depth_start : s.depth % 2 ≡ 0
   pub colour_within : s.colour + area s.size ≤ n
   pub depth_within : s.depth + area s.size ≤ n
   pub areas_apart_lem : (s.colour + area s.size ≤ s.depth) ⊎ (s.depth + area s.size ≤ s.colour)
 
 -- a sound screen in a RAM of n bytes, in plain facts
 pub record Sound (n : ℕ) (s : Screen) : Type 0 where
-  pub groups-low : 1 ≤ groups s.size
-  pub groups-high : groups s.size ≤ 40
-  pub height-low : 1 ≤ height s.size
-  pub height-high : height s.size ≤ 480
+  pub groups_low : 1 ≤ groups s.size
+  pub groups_high : groups s.size ≤ 40
+  pub height_low : 1 ≤ height s.size
+  pub height_high : height s.size ≤ 480
   pub laid : Areas n s
 
 pub and_l : (a b : Bool) → (a && b) ≡ true → a ≡ true
@@ -65,10 +65,10 @@ sound_facts {n} {s} e = search (and_l, and_r, leb-true, areas_facts)
 
 module _ {n : ℕ} {s : Screen} (k : Sound n s) where
   pub width-le : width s.size ≤ 640
-  width-le = omega (arith, k.groups-high)
+  width-le = omega (arith, k.groups_high)
 
   pub height-le : height s.size ≤ 480
-  height-le = k.height-high
+  height-le = k.height_high
 
 -- a layout as strips of 32 bytes: a group's sixteen colours stand side by side, and so do its sixteen depths; the groups follow one another
 -- at equal steps, and no two strips overlap
@@ -84,7 +84,7 @@ record Strips (n : ℕ) (s : Screen) : Type 0 where
   depths : ℕ
   stride : ℕ
   is_wide : 32 ≤ stride
-  colour-is : (x y : ℕ) → colour_at s x y ≡ leaf_at s colours stride x y
+  colour_is : (x y : ℕ) → colour_at s x y ≡ leaf_at s colours stride x y
   depth_is : (x y : ℕ) → depth_at s x y ≡ leaf_at s depths stride x y
   colours_fit : (i : ℕ) → i < group_count s → colours + i * stride + 32 ≤ n
   depths_fit : (i : ℕ) → i < group_count s → depths + i * stride + 32 ≤ n
@@ -98,7 +98,7 @@ strips {n} {s} k = record {
   depths = s.depth;
   stride = 32;
   is_wide = omega arith;
-  colour-is = λ x y. omega arith;
+  colour_is = λ x y. omega arith;
   depth_is = λ x y. omega arith;
   colours_fit = λ i l. omega (arith, k.laid.colour_within);
   depths_fit = λ i l. omega (arith, k.laid.depth_within);
@@ -165,7 +165,7 @@ module _ {s : Screen} {x y : ℕ} (p : On s x y) where
 
 module _ {n : ℕ} {s : Screen} (k : Sound n s) {x y : ℕ} (p : On s x y) where
   pub colour-fits : colour_at s x y + 1 < n
-  colour-fits = let t = strips k in omega (arith, t.colour-is x y, t.colours_fit _ (group_index p))
+  colour-fits = let t = strips k in omega (arith, t.colour_is x y, t.colours_fit _ (group_index p))
 
   pub depth-fits : depth_at s x y + 1 < n
   depth-fits = let t = strips k in omega (arith, t.depth_is x y, t.depths_fit _ (group_index p))
@@ -174,7 +174,7 @@ module _ {n : ℕ} {s : Screen} (k : Sound n s) {x y : ℕ} (p : On s x y) where
     pub colour_apart : Other x y x' y' → Apart (colour_at s x y) (colour_at s x' y')
     colour_apart o =
         let t = strips k in
-        subst₂ Apart (sym (t.colour-is x y)) (sym (t.colour-is x' y')) (leaves_apart p p' t.colours t.stride t.is_wide o)
+        subst₂ Apart (sym (t.colour_is x y)) (sym (t.colour_is x' y')) (leaves_apart p p' t.colours t.stride t.is_wide o)
 
     pub depth_apart : Other x y x' y' → Apart (depth_at s x y) (depth_at s x' y')
     depth_apart o =
@@ -184,7 +184,7 @@ module _ {n : ℕ} {s : Screen} (k : Sound n s) {x y : ℕ} (p : On s x y) where
     pub colour_depth_apart : Apart (colour_at s x y) (depth_at s x' y')
     colour_depth_apart =
         let t = strips k in
-        subst₂ Apart (sym (t.colour-is x y)) (sym (t.depth_is x' y'))
+        subst₂ Apart (sym (t.colour_is x y)) (sym (t.depth_is x' y'))
         (go (t.colours + (y * groups s.size + x / 16) * t.stride) (t.depths + (y' * groups s.size + x' / 16) * t.stride)
         (t.no_overlap _ _ (group_index p) (group_index p')))
       where
@@ -202,7 +202,7 @@ module _ {n : ℕ} {s : Screen} (k : Sound n s) (x i y : ℕ) (e : x % 16 ≡ 0)
   pub colour_leaf : colour_at s (x + i) y ≡ colour_at s x y + 2 * i
   colour_leaf =
       let t = strips k in
-      omega (arith, t.colour-is (x + i) y, t.colour-is x y, side_by_side t.colours t.stride)
+      omega (arith, t.colour_is (x + i) y, t.colour_is x y, side_by_side t.colours t.stride)
 
   pub depth_leaf : depth_at s (x + i) y ≡ depth_at s x y + 2 * i
   depth_leaf =
@@ -241,5 +241,5 @@ pub row_fits : {at : Area} → RowByRow at → {n : ℕ} {s : Screen} {y : ℕ} 
     → at s 0 y + 2 * width s.size ≤ n
 row_fits {at} a {n} {s} {y} k h =
     let w : ℕ = width s.size in
-    let e : w - 1 < w = omega (arith, k.groups-low) in
+    let e : w - 1 < w = omega (arith, k.groups_low) in
     omega (arith, a.within n s (w - 1) y k (record { across = e; down = h }), a.in_row s (w - 1) y)

@@ -23,12 +23,12 @@ module _ {before : ℤ → ℤ → Type 0} (o : Ordered before) where
     pub later_second : SFits w16 b → before a b → LaterOf before a b (to_z w16 (of_z w16 b))
     later_second f h =
         subst (LaterOf before a b) (sym (to_z-of_z w16 b f))
-        (record { one = inr refl; after_first = h; after-second = o.itself b })
+        (record { one = inr refl; after_first = h; after_second = o.itself b })
 
     pub later_first : SFits w16 a → before b a → LaterOf before a b (to_z w16 (of_z w16 a))
     later_first f h =
         subst (LaterOf before a b) (sym (to_z-of_z w16 a f))
-        (record { one = inl refl; after_first = o.itself a; after-second = h })
+        (record { one = inl refl; after_first = o.itself a; after_second = h })
 
   module _ {samples : List ℤ} {from : ℕ} where
     -- the first sample alone
@@ -37,7 +37,7 @@ module _ {before : ℤ → ℤ → Type 0} (o : Ordered before) where
       place = from;
       between = record { not_before = omega arith; before = omega arith };
       is = refl;
-      after-each = λ i b. subst (λ k. before (at samples k) (at samples from)) (only i b) (o.itself (at samples from));
+      after_each = λ i b. subst (λ k. before (at samples k) (at samples from)) (only i b) (o.itself (at samples from));
     }
       where
         only : (i : ℕ) → Between from (from + 1) i → from ≡ i
@@ -50,7 +50,7 @@ module _ {before : ℤ → ℤ → Type 0} (o : Ordered before) where
       place = place_of k.one;
       between = between-of k.one;
       is = is-of k.one;
-      after-each = λ i b. go i b (ℕ_discrete i to);
+      after_each = λ i b. go i b (ℕ_discrete i to);
     }
       where
         place_of : (r ≡ v) ⊎ (r ≡ at samples to) → ℕ
@@ -66,9 +66,9 @@ module _ {before : ℤ → ℤ → Type 0} (o : Ordered before) where
         is-of (inr e) = sym e
 
         go : (i : ℕ) → Between from (to + 1) i → Dec (i ≡ to) → before (at samples i) r
-        go i b (yes e) = subst (λ j. before (at samples j) r) (sym e) k.after-second
+        go i b (yes e) = subst (λ j. before (at samples j) r) (sym e) k.after_second
         go i b (no e) =
-            o.through (l.after-each i (record { not_before = b.not_before; before = omega (arith, b.before) })) k.after_first
+            o.through (l.after_each i (record { not_before = b.not_before; before = omega (arith, b.before) })) k.after_first
 
     -- as the machine reads the sample and keeps the later
     pub last_first_read : SFits w16 (at samples from) → Last before samples from (from + 1) (to_z w16 (of_z w16 (at samples from)))

@@ -73,4 +73,4 @@ module _
         each : {before : ℤ → ℤ → Type 0} {v : ℤ} → Last before w.samples from to v → (u : ℤ) → Has u (column_samples w x) → before u v
         each {before} {v} l u m =
             let s = (column_has w x u).0 m in
-            subst (λ z. before z v) s.is (l.after-each s.at (taken s))
+            subst (λ z. before z v) s.is (l.after_each s.at (taken s))

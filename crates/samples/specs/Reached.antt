@@ -31,14 +31,14 @@ a ≥ℤ b = b ≤ℤ a
 pub record LaterOf (before : ℤ → ℤ → Type 0) (a b r : ℤ) : Type 0 where
   pub one : (r ≡ a) ⊎ (r ≡ b)
   pub after_first : before a r
-  pub after-second : before b r
+  pub after_second : before b r
 
 -- a sample between the two that none between them passes, in an order
 pub record Last (before : ℤ → ℤ → Type 0) (samples : List ℤ) (from to : ℕ) (v : ℤ) : Type 0 where
   pub place : ℕ
   pub between : Between from to place
   pub is : at samples place ≡ v
-  pub after-each : (i : ℕ) → Between from to i → before (at samples i) v
+  pub after_each : (i : ℕ) → Between from to i → before (at samples i) v
 
 pub record EndsBetween (samples : List ℤ) (from to : ℕ) (r : Range) : Type 0 where
   pub high : Last ◌≤ℤ◌ samples from to r.largest

@@ -16,14 +16,14 @@ module _ {n : ℕ} {s : Screen} {t : Tree} (p : Placed n s t) where
   on h = leaf_on s t.column t.row p.accepted h
 
   pub depth_leaf_fits : {k : ℕ} → k < 16 → depth_at s (t.column + k) t.row + 1 < n
-  depth_leaf_fits h = depth-fits (sound_facts p.is-sound) (on h)
+  depth_leaf_fits h = depth-fits (sound_facts p.is_sound) (on h)
 
   pub colour_leaf_fits : {k : ℕ} → k < 16 → colour_at s (t.column + k) t.row + 1 < n
-  colour_leaf_fits h = colour-fits (sound_facts p.is-sound) (on h)
+  colour_leaf_fits h = colour-fits (sound_facts p.is_sound) (on h)
 
   -- the leaves' half-words stand side by side, from the first leaf's on
   pub colour-from : {first k : ℕ} → first ≡ colour_at s t.column t.row → k < 16 → first + 2 * k ≡ colour_at s (t.column + k) t.row
-  colour-from {first} {k} e h = ap (λ n. n + 2 * k) e ∙ sym (colour_leaf (sound_facts p.is-sound) t.column k t.row whole h)
+  colour-from {first} {k} e h = ap (λ n. n + 2 * k) e ∙ sym (colour_leaf (sound_facts p.is_sound) t.column k t.row whole h)
 
   pub depth-from : {first k : ℕ} → first ≡ depth_at s t.column t.row → k < 16 → first + 2 * k ≡ depth_at s (t.column + k) t.row
-  depth-from {first} {k} e h = ap (λ n. n + 2 * k) e ∙ sym (depth_leaf (sound_facts p.is-sound) t.column k t.row whole h)
+  depth-from {first} {k} e h = ap (λ n. n + 2 * k) e ∙ sym (depth_leaf (sound_facts p.is_sound) t.column k t.row whole h)

@@ -9,7 +9,7 @@ use Rattle.instructions.specs.Tree.{leaves, refuses_place}
 
 -- the tree stands on a sound screen, at a place that TREESET does not refuse
 pub record Placed (ram_length : ℕ) (s : Screen) (t : Tree) : Type 0 where
-  pub is-sound : sound ram_length s ≡ true
+  pub is_sound : sound ram_length s ≡ true
   pub accepted : refuses_place s t.column t.row ≡ false
 
 -- sixteen half-words side by side, from `first` on

@@ -36,7 +36,7 @@ module _ {ram_length : ℕ} {view : View} (s : Shows ram_length view) where
   accepts h = rw (le-ltb ram_limit ram_length s.limit, s.screen_sound h)
 
   pub placed : view.planted ≡ true → Placed ram_length view.screen view.tree
-  placed h = record { is-sound = s.screen_sound (s.tree_shown h); accepted = s.tree_place h }
+  placed h = record { is_sound = s.screen_sound (s.tree_shown h); accepted = s.tree_place h }
 
 -- TREEVAL by its imm: a depth at 0, else a colour
 module _ (kind : ℕ) (s : Screen) (ram : List ℕ) (a b : ℕ) (t : Tree) where

@@ -13,9 +13,9 @@ use Rattle.waveform.specs.Panel.{good_waveform}
 pub record Good (count : ℕ) (n d : ℤ) : Type 0 where
   pub count_most : count ≤ 40960
   pub n_least : pos 1 ≤ℤ n
-  pub n-most : n ≤ℤ pos 64
+  pub n_most : n ≤ℤ pos 64
   pub d_least : negsuc 2047 ≤ℤ d
-  pub d-most : d ≤ℤ pos 2047
+  pub d_most : d ≤ℤ pos 2047
 
 pub good_facts : {count : ℕ} {n d : ℤ} → good_waveform count n d ≡ true → Good count n d
 unfolding good_waveform
@@ -27,14 +27,14 @@ good_facts {count} {n} {d} h =
     record {
       count_most = leb-true count 40960 b.0;
       n_least = le_z_true (pos 1) n p.0;
-      n-most = le_z_true n (pos 64) p.1;
+      n_most = le_z_true n (pos 64) p.1;
       d_least = le_z_true (negsuc 2047) d q.0;
-      d-most = le_z_true d (pos 2047) q.1;
+      d_most = le_z_true d (pos 2047) q.1;
     }
 
 module _ {count : ℕ} {n d : ℤ} (g : Good count n d) where
   pub n_within : Within 64 n
-  n_within = within_range (within_lit tt) (within_lit tt) g.n_least g.n-most
+  n_within = within_range (within_lit tt) (within_lit tt) g.n_least g.n_most
 
   pub d_within : Within 2048 d
-  d_within = within_range (within_lit tt) (within_lit tt) g.d_least g.d-most
+  d_within = within_range (within_lit tt) (within_lit tt) g.d_least g.d_most

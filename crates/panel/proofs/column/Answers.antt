@@ -82,7 +82,7 @@ fill-requires c =
     let bottom : c.row_of-2.result ≡ row_of (height a.s.size) low = row_is low_fits c.height-h.ensures c.row_of-2.ensures in
     let known : extremes.Ends (column_samples w a.x) high low =
     column-ends w a.x (reaches c.ranges.n c.ranges.d c.reached-r.ensures) c.ends-e.ensures in
-    let h = (sound_facts ((screen-accepted (length a.ram.now) a.s).0 c.requires.0.screen).1).height-low in
+    let h = (sound_facts ((screen-accepted (length a.ram.now) a.s).0 c.requires.0.screen).1).height_low in
     record {
       screen = c.requires.0.screen;
       across = c.requires.1;

@@ -48,5 +48,5 @@ returns c =
           is-scaled
           (ap across (reads_as dy_c tt))
           c.in_ticks.ensures;
-      is-ends = sym (code_above dy_c tt refl);
+      is_ends = sym (code_above dy_c tt refl);
     }

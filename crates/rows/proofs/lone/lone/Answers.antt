@@ -18,12 +18,12 @@ returns-then-not-on c = lone_off c.requires c.if-not-on.true
 
 pub tints_at-v-requires : goal.tints_at-v-requires
 tints_at-v-requires c =
-    let facts : Sound (length c.args.ram.now) c.args.s = sound_facts c.requires.is-sound in
+    let facts : Sound (length c.args.ram.now) c.args.s = sound_facts c.requires.is_sound in
     (omega (arith, c.requires.across, width-le facts), omega (arith, c.requires.row, height-le facts))
 
 pub pixel-written-requires : goal.pixel-written-requires
 pixel-written-requires c =
-    let facts : Sound (length c.args.ram.now) c.args.s = sound_facts c.requires.is-sound in
+    let facts : Sound (length c.args.ram.now) c.args.s = sound_facts c.requires.is_sound in
     let lies_on_screen : On c.args.s c.args.x c.args.y = record { across = c.requires.across; down = c.requires.row } in (
       omega (arith, c.colour_at.ensures, colour-fits facts lies_on_screen),
       omega (arith, c.depth_at.ensures, depth-fits facts lies_on_screen),
@@ -34,7 +34,7 @@ pub returns : goal.returns
 returns c =
     let a = c.args in
     let l : Line = line a.s a.t a.y in
-    let facts : Sound (length a.ram.now) a.s = sound_facts c.requires.is-sound in
+    let facts : Sound (length a.ram.now) a.s = sound_facts c.requires.is_sound in
     let counted : ones c.span_masks-m.result.one ≡ 1 = ap ones c.span_masks-m.ensures.first ∙ one_leaf (a.x % 16) (omega arith) in
     let here : covered_in l a.x ≡ true = c.requires.here ∙ c.if-not-on.false in
     let tints = c.tints_at-v.ensures in

@@ -26,7 +26,7 @@ fits : {s : Screen} {t : Triangle} {m ram : List ℕ} {v : Tints} {a y wide give
     → depth ≡ depth_at s a y
     → (colour + 2 * i + 1 < length ram) × (depth + 2 * i + 1 < length ram) × (length ram ≡ length m)
 fits {s} {a = a} {y} {i = i} q u h e f =
-    let k = sound_facts q.is-sound in
+    let k = sound_facts q.is_sound in
     let p = lies_on_screen q u h in
     let l = length_now q u in (
       subst₂ (λ (m n : ℕ). m + 1 < n) (sym (colour-from s a y i e)) (sym l) (colour-fits k p),
@@ -37,7 +37,7 @@ fits {s} {a = a} {y} {i = i} q u h e f =
 pub tints_at-v-requires : goal.tints_at-v-requires
 tints_at-v-requires c =
     let a = c.args in
-    let k = sound_facts c.requires.is-sound in
+    let k = sound_facts c.requires.is_sound in
     let p = covered_on (line a.s a.t a.y) c.requires.begins in
     (omega (arith, p.across, width-le k), omega (arith, p.down, height-le k))
 
