@@ -56,6 +56,7 @@ pub fn tree_depth(ram: &[u8], s: Screen, tree: Tree, a: u32, b: u32) -> Tree
 }
 
 // One leaf: `c` goes to the half-word at `colour`, and `d` to that at `depth` only where depths are held.
+#[tactic(auto, unfolding(crate::specs::Leaves::stored))]
 fn store_leaf(ram: &mut [u8], held: bool, colour: usize, depth: usize, c: u16, d: u16)
     requires { (colour + 1 < length ram.old) × (depth + 1 < length ram.old) }
     ensures { ram.new ≡ stored held colour depth c d ram.old }
