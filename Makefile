@@ -4,7 +4,7 @@
 # make bench      the speed tables
 # make doc        the Rust layer's pages, in target/rust/doc
 # make install    into PREFIX (default /usr/local), below DESTDIR where that is given
-# It needs rt, gcc and cargo, and no network. All that it makes is under target/.
+# It needs rt, gcc and cargo, and no network. All that it makes is under target/, but for what rt keeps in crates/*/out.
 
 PREFIX ?= /usr/local
 VERSION := $(shell sed -n 's/^.define MERIKOHIN_VERSION "\(.*\)"/\1/p' include/merikohin.h)
@@ -14,7 +14,7 @@ MACHINE := $(shell uname -m)
 NATIVE := $(if $(filter x86_64,$(MACHINE)),target/staticlib,target/bridge)
 SHARED := target/shared/libmerikohin.so.$(VERSION)
 CARGO := cd rust && MERIKOHIN_LIB_DIR=$$PWD/../$(NATIVE) CARGO_HOME=$$PWD/../target/cargo cargo
-SOURCES := $(shell find crates -name '*.rt' -o -name '*.antt') $(wildcard include/*.h bridge/*)
+SOURCES := $(shell find crates -name out -prune -o -name '*.rt' -print -o -name '*.antt' -print) $(wildcard include/*.h bridge/*)
 
 PICTURES := target/picture.png target/edge.png target/half-pixel.png target/panel-0.png target/panel-48.png
 
