@@ -1,6 +1,6 @@
 -- ST, READ and WRITE: what they leave in the memories is the definition's effect; and a move that no case halts fits.
 use Prim.Native.Nat.{ℕ, ◌+◌, ◌%◌, ◌≤◌}
-use mathlib.Core.Path.{◌≡◌, sym, ◌∙◌, ap}
+use mathlib.Core.Path.{◌≡◌, sym, ◌∙◌, ap, ap₂}
 use mathlib.Core.Bool.{false, ◌||◌, not}
 use mathlib.Core.List.{List}
 use lib.ListN.{length, set}
@@ -31,6 +31,15 @@ move_fits ram_length word byte e =
 module _ (regs : List ℕ) (cpu : Cpu) (view : View) (memory ram : List ℕ) (w : ℕ) where
   abbrev before : Machine
   before = machine regs cpu view memory ram
+
+  -- a move's halt is the one that its addresses give
+  pub halt_is : {halt word byte : ℕ}
+      → word_halt current (length ram) (joined regs cpu view) w ≡ move_halt (length ram) (in_r1 regs w) (in_r2 regs w)
+      → halt ≡ move_halt (length ram) word byte
+      → word ≡ in_r1 regs w
+      → byte ≡ in_r2 regs w
+      → word_halt current (length ram) (joined regs cpu view) w ≡ halt
+  halt_is e k p q = e ∙ sym (k ∙ ap₂ (move_halt (length ram)) p q)
 
   -- the next place, with other memories
   module _ (cpu' : Cpu) (z : word_halt current (length ram) (joined regs cpu view) w ≡ 0) (hc : cpu' ≡ at (cpu.place + 1) cpu) where

@@ -1,40 +1,34 @@
 -- A halt's number is the definition's; where there is none, the sixteen words fit both memories, and are those of the definition.
 use Prim.Native.Nat.{ℕ}
-use mathlib.Core.Path.{◌≡◌, sym, ◌∙◌, ap₂}
+use mathlib.Core.Path.{◌∙◌, ap₂}
 use lib.ListN.{length}
-use Rattle.instructions.specs.Opcodes.{current}
 use Rattle.instructions.specs.Moves.{words_written}
-use Rattle.instructions.specs.Halts.{word_halt}
 use Rattle.pieces.specs.Pieces.{joined}
 use Rattle.pieces.proofs.Cases.{case-WRITE}
 use Rattle.pieces.proofs.Joined.{stops}
-use Rattle.moves.specs.Halts.{move_halt}
-use Rattle.access.proofs.Accesses.{writes}
+use Rattle.access.proofs.Accesses.{halt_is, writes}
 use Rattle.access.proofs.do_write.Goals as goal
 
 pub returns-then-halt-ne0 : goal.returns-then-halt-ne0
 returns-then-halt-ne0 c =
     λ view.
     let a = c.args in
-    -- the halt of the definition is the one that the addresses give
-    let halt-is : word_halt current (length a.ram.now) (joined a.regs.now a.cpu view) a.w ≡ c.move_halt-halt.result
-    = case-WRITE (length a.ram.now) (joined a.regs.now a.cpu view) a.w c.requires.0
-    ∙ sym (c.move_halt-halt.ensures ∙ ap₂ (move_halt (length a.ram.now)) c.in_r1-word.ensures c.in_r2-byte.ensures) in
     stops a.regs.now a.cpu view a.memory.now a.ram.now a.w c.move_halt-halt.result _
     c.stopped.ensures
-    halt-is
+    (halt_is a.regs.now a.cpu view a.memory.now a.ram.now a.w
+    (case-WRITE (length a.ram.now) (joined a.regs.now a.cpu view) a.w c.requires.0)
+    c.move_halt-halt.ensures c.in_r1-word.ensures c.in_r2-byte.ensures)
     c.if-halt-ne0.true
 
 pub returns : goal.returns
 returns c =
     λ view.
     let a = c.args in
-    -- the halt of the definition is the one that the addresses give
-    let halt-is : word_halt current (length a.ram.now) (joined a.regs.now a.cpu view) a.w ≡ c.move_halt-halt.result
-    = case-WRITE (length a.ram.now) (joined a.regs.now a.cpu view) a.w c.requires.0
-    ∙ sym (c.move_halt-halt.ensures ∙ ap₂ (move_halt (length a.ram.now)) c.in_r1-word.ensures c.in_r2-byte.ensures) in
     writes a.regs.now a.cpu view a.memory.now a.ram.now a.w _
-    (halt-is ∙ c.if-halt-ne0.false)
+    (halt_is a.regs.now a.cpu view a.memory.now a.ram.now a.w
+    (case-WRITE (length a.ram.now) (joined a.regs.now a.cpu view) a.w c.requires.0)
+    c.move_halt-halt.ensures c.in_r1-word.ensures c.in_r2-byte.ensures
+    ∙ c.if-halt-ne0.false)
     c.onward.ensures
     _ c.requires.0
     (c.write_words.ensures

@@ -2,11 +2,12 @@
 use mathlib.Core.Path.{◌≡◌, ◌∙◌, ap}
 use native.Mathlib.Omega.{arith}
 use Rattle.instructions.specs.Opcodes.{current}
-use Rattle.instructions.specs.Step.{Machine, step}
+use Rattle.instructions.specs.Step.{step}
 use Rattle.pieces.specs.declared.state.Cpu.{Cpu}
 use Rattle.pieces.specs.Pieces.{machine}
 use Rattle.runs.proofs.Invariant.{stops_past, step_in, ready_facts, ready_shows}
 use Rattle.runs.proofs.Invariant.{halted_ends, kept_start, kept_end, kept_stop, kept_pass}
+use Rattle.runs.proofs.run_with.Goals.{After-plain_step-cpu, After-view_step-next}
 use Rattle.runs.proofs.run_with.Goals as goal
 
 pub returns-then-cpu-ne0 : goal.returns-then-cpu-ne0
@@ -41,23 +42,21 @@ plain_step-cpu-requires c =
       reciprocals = c.requires.1;
     }
 
+plain_stepped : (c : After-plain_step-cpu) →
+    let l = c.loop-steps in
+    let p = c.plain_step-cpu in
+    machine p.new.regs p.result l.view p.new.memory p.new.ram ≡ step current c.args.program.now (machine l.regs l.cpu l.view l.memory l.ram)
+plain_stepped c = c.plain_step-cpu.ensures c.loop-steps.view ∙ step_in _ _ c.loop-steps.invariant.goes c.if-program-place.false
+
 pub returns-then-cpu-ne0-2 : goal.returns-then-cpu-ne0-2
 returns-then-cpu-ne0-2 c =
     let l = c.loop-steps in
-    let p = c.plain_step-cpu in
-    let here : Machine = machine l.regs l.cpu l.view l.memory l.ram in
-    let stepped : machine p.new.regs p.result l.view p.new.memory p.new.ram ≡ step current c.args.program.now here =
-    p.ensures l.view ∙ step_in _ here l.invariant.goes c.if-program-place.false in
-    kept_stop l.invariant c.loop-steps-test.true _ stepped c.if-cpu-ne0-2.true
+    kept_stop l.invariant c.loop-steps-test.true _ (plain_stepped (goal.at.returns-then-cpu-ne0-2 c).After-plain_step-cpu) c.if-cpu-ne0-2.true
 
 pub loop-steps-preserved-then-opcode-le-WRITE : goal.loop-steps-preserved-then-opcode-le-WRITE
 loop-steps-preserved-then-opcode-le-WRITE c =
     let l = c.loop-steps in
-    let p = c.plain_step-cpu in
-    let here : Machine = machine l.regs l.cpu l.view l.memory l.ram in
-    let stepped : machine p.new.regs p.result l.view p.new.memory p.new.ram ≡ step current c.args.program.now here =
-    p.ensures l.view ∙ step_in _ here l.invariant.goes c.if-program-place.false in
-    kept_pass l.invariant c.loop-steps-test.true _ stepped c.if-cpu-ne0-2.false
+    kept_pass l.invariant c.loop-steps-test.true _ (plain_stepped (goal.at.loop-steps-preserved-then-opcode-le-WRITE c).After-plain_step-cpu) c.if-cpu-ne0-2.false
 
 -- a step from SCRSET on
 pub view_step-next-requires : goal.view_step-next-requires
@@ -72,23 +71,22 @@ view_step-next-requires c =
       shows = ready_shows k.ready;
     }
 
+view_stepped : (c : After-view_step-next) →
+    let l = c.loop-steps in
+    let p = c.view_step-next in
+    machine p.new.regs p.result.cpu p.result.view l.memory p.new.ram
+    ≡ step current c.args.program.now (machine l.regs l.cpu l.view l.memory l.ram)
+view_stepped c = c.view_step-next.ensures c.loop-steps.memory ∙ step_in _ _ c.loop-steps.invariant.goes c.if-program-place.false
+
 pub returns-then-cpu-ne0-3 : goal.returns-then-cpu-ne0-3
 returns-then-cpu-ne0-3 c =
     let l = c.loop-steps in
-    let p = c.view_step-next in
-    let here : Machine = machine l.regs l.cpu l.view l.memory l.ram in
-    let stepped : machine p.new.regs p.result.cpu p.result.view l.memory p.new.ram ≡ step current c.args.program.now here =
-    p.ensures l.memory ∙ step_in _ here l.invariant.goes c.if-program-place.false in
-    kept_stop l.invariant c.loop-steps-test.true _ stepped c.if-cpu-ne0-3.true
+    kept_stop l.invariant c.loop-steps-test.true _ (view_stepped (goal.at.returns-then-cpu-ne0-3 c).After-view_step-next) c.if-cpu-ne0-3.true
 
 pub loop-steps-preserved : goal.loop-steps-preserved
 loop-steps-preserved c =
     let l = c.loop-steps in
-    let p = c.view_step-next in
-    let here : Machine = machine l.regs l.cpu l.view l.memory l.ram in
-    let stepped : machine p.new.regs p.result.cpu p.result.view l.memory p.new.ram ≡ step current c.args.program.now here =
-    p.ensures l.memory ∙ step_in _ here l.invariant.goes c.if-program-place.false in
-    kept_pass l.invariant c.loop-steps-test.true _ stepped c.if-cpu-ne0-3.false
+    kept_pass l.invariant c.loop-steps-test.true _ (view_stepped (goal.at.loop-steps-preserved c).After-view_step-next) c.if-cpu-ne0-3.false
 
 pub returns : goal.returns
 returns c = kept_end c.loop-steps.invariant c.loop-steps-test.false

@@ -14,7 +14,7 @@ use Rattle.ints.proofs.Machine.{got_nat, got_lit, Code, known, ◌⊟◌, reads_
 use Rattle.through.specs.Through.{CanDivide}
 use Rattle.through.proofs.Ranges.{got_answer, answered}
 use Rattle.through.proofs.Folded.{folded, again, fold_back, fold_on, folded_small, down-below, down_on, quotient}
-use Rattle.through.proofs.rounded_down.Goals.{then-n-lt0, else-n-lt0}
+use Rattle.through.proofs.rounded_down.Goals.{Joined-n-lt0, then-n-lt0, else-n-lt0}
 use Rattle.through.proofs.rounded_down.Goals as goal
 
 -- the test, of the number itself
@@ -47,12 +47,12 @@ module _ {n d : ℤ} (h : CanDivide n d) where
     back_on : to_z w64 (of_z w64 (quot_z m (to_z w64 (of_z w64 d)))) ≡ pos (folded n / nat_abs d)
     back_on = answered q_is q_small tt
 
-pub returns-then-n-lt0-2 : goal.returns-then-n-lt0-2
-returns-then-n-lt0-2 c =
+-- what is divided is the folded number
+is_folded : (c : Joined-n-lt0) → to_z w64 c.if-n-lt0.m-bits ≡ pos (folded c.args.n)
+is_folded c =
     let n = c.args.n in
     let f = c.ranges.n in
     let h = c.requires in
-    let e : to_z w64 c.if-n-lt0.m-bits ≡ pos (folded n) =
     elim c.if-n-lt0.branch [
       | then-n-lt0 w ↦
           w.m-is
@@ -60,21 +60,15 @@ returns-then-n-lt0-2 c =
           ∙ ap (to_z w64) (fold_back n (side n f w.if-n-lt0.true))
           ∙ small h
       | else-n-lt0 w ↦ w.m-is ∙ ap (to_z w64) (fold_on n (side n f w.if-n-lt0.false)) ∙ small h
-    ] in
-    back_below h c.ranges.d e ∙ down-below n c.args.d (side n f c.if-n-lt0-2.true)
+    ]
+
+pub returns-then-n-lt0-2 : goal.returns-then-n-lt0-2
+returns-then-n-lt0-2 c =
+    let n = c.args.n in
+    back_below c.requires c.ranges.d (is_folded (goal.at.returns-then-n-lt0-2 c).Joined-n-lt0)
+    ∙ down-below n c.args.d (side n c.ranges.n c.if-n-lt0-2.true)
 
 pub returns : goal.returns
 returns c =
     let n = c.args.n in
-    let f = c.ranges.n in
-    let h = c.requires in
-    let e : to_z w64 c.if-n-lt0.m-bits ≡ pos (folded n) =
-    elim c.if-n-lt0.branch [
-      | then-n-lt0 w ↦
-          w.m-is
-          ∙ ap (λ (z : ℤ). to_z w64 (of_z w64 (negsuc 0 -ℤ z))) (given n f)
-          ∙ ap (to_z w64) (fold_back n (side n f w.if-n-lt0.true))
-          ∙ small h
-      | else-n-lt0 w ↦ w.m-is ∙ ap (to_z w64) (fold_on n (side n f w.if-n-lt0.false)) ∙ small h
-    ] in
-    back_on h c.ranges.d e ∙ down_on n c.args.d (side n f c.if-n-lt0-2.false)
+    back_on c.requires c.ranges.d (is_folded (goal.at.returns c).Joined-n-lt0) ∙ down_on n c.args.d (side n c.ranges.n c.if-n-lt0-2.false)

@@ -16,6 +16,7 @@ use Rattle.interpolation.proofs.Numbers.{by_tests, plane_outside}
 use Rattle.through.specs.Through.{Solvable}
 use Rattle.through.proofs.Ranges.{AllWithin, all_within, c-small, a_small, b-small, answered}
 use Rattle.through.proofs.Answers.{refuses, passes, fits, three}
+use Rattle.through.proofs.worked_out.Goals.{After-in_signed32-3}
 use Rattle.through.proofs.worked_out.Goals as goal
 
 module _ {v : Vertices} {r : Values} (h : Solvable v r) where
@@ -51,6 +52,13 @@ module _ {v : Vertices} {r : Values} (h : Solvable v r) where
 fit : {z : ℤ} {t : Bool} → t ≡ in_signed32 z → t ≡ true → SFits w32 z
 fit {z} e p = fits z (sym e ∙ p)
 
+-- the three tests together are the definition's
+all_are : (c : After-in_signed32-3)
+    → c.in_signed32.result && c.in_signed32-2.result && c.in_signed32-3.result ≡ plane_in_range (plane_through c.args.v c.args.r)
+all_are c =
+    is_all c.requires c.through_c-c.ensures c.through_a-a.ensures c.through_b-b.ensures
+    c.in_signed32.ensures c.in_signed32-2.ensures c.in_signed32-3.ensures
+
 pub overflow_cast-result : goal.overflow_cast-result
 overflow_cast-result c = fit c.in_signed32.ensures (three {a = c.in_signed32.result} {b = c.in_signed32-2.result} c.if-not-in_signed32.false).0
 
@@ -65,10 +73,7 @@ returns-then-not-in_signed32 c =
     let v = c.args.v in
     let r = c.args.r in
     let h = c.requires in
-    let all =
-    is_all h c.through_c-c.ensures c.through_a-a.ensures c.through_b-b.ensures
-    c.in_signed32.ensures c.in_signed32-2.ensures c.in_signed32-3.ensures in
-    refuses v r (by_tests v r true true h.in_range.vertices (judged h all c.if-not-in_signed32.true)) (λ z. absurd (omega (arith, z))) c.refused.ensures
+    refuses v r (by_tests v r true true h.in_range.vertices (judged h (all_are (goal.at.returns-then-not-in_signed32 c).After-in_signed32-3) c.if-not-in_signed32.true)) (λ z. absurd (omega (arith, z))) c.refused.ensures
 
 pub returns : goal.returns
 unfolding plane_through
@@ -76,11 +81,8 @@ returns c =
     let v = c.args.v in
     let r = c.args.r in
     let h = c.requires in
-    let all =
-    is_all h c.through_c-c.ensures c.through_a-a.ensures c.through_b-b.ensures
-    c.in_signed32.ensures c.in_signed32-2.ensures c.in_signed32-3.ensures in
     let each = three {a = c.in_signed32.result} {b = c.in_signed32-2.result} c.if-not-in_signed32.false in
-    passes v r (by_tests v r true false h.in_range.vertices (judged h all c.if-not-in_signed32.false))
+    passes v r (by_tests v r true false h.in_range.vertices (judged h (all_are (goal.at.returns c).After-in_signed32-3) c.if-not-in_signed32.false))
     refl
     (λ i.
     record {

@@ -9,17 +9,20 @@ use Rattle.instructions.specs.Halts.{screen_set}
 use Rattle.pieces.specs.Pieces.{joined}
 use Rattle.pieces.proofs.Cases.{case-SCRSET}
 use Rattle.views.proofs.Viewed.{view_stops, sets_screen}
+use Rattle.views.proofs.do_scrset.Goals.{After-sound}
 use Rattle.views.proofs.do_scrset.Goals as goal
+
+-- the test is the definition's, of the screen that the registers give
+is_sound : (c : After-sound) → sound (length c.args.ram.now) (screen_set c.args.regs.now c.args.w) ≡ c.sound.result
+is_sound c = sym (c.sound.ensures ∙ ap (sound (length c.args.ram.now)) c.screen_set-screen.ensures)
 
 pub returns-then-not-sound : goal.returns-then-not-sound
 returns-then-not-sound c =
     λ memory.
     let a = c.args in
-    let sound-is : sound (length a.ram.now) (screen_set a.regs.now a.w) ≡ c.sound.result =
-    sym (c.sound.ensures ∙ ap (sound (length a.ram.now)) c.screen_set-screen.ensures) in
     view_stops a.regs.now a.cpu a.view memory a.ram.now a.w 17 _ c.stop.ensures
     (case-SCRSET (length a.ram.now) (joined a.regs.now a.cpu a.view) a.w c.requires.0
-    ∙ ap (λ (t : Bool). choose (not t) 17 0) sound-is
+    ∙ ap (λ (t : Bool). choose (not t) 17 0) (is_sound (goal.at.returns-then-not-sound c).After-sound)
     ∙ rw c.if-not-sound.true)
     (λ q. omega (arith, q))
 
@@ -27,11 +30,9 @@ pub returns : goal.returns
 returns c =
     λ memory.
     let a = c.args in
-    let sound-is : sound (length a.ram.now) (screen_set a.regs.now a.w) ≡ c.sound.result =
-    sym (c.sound.ensures ∙ ap (sound (length a.ram.now)) c.screen_set-screen.ensures) in
     sets_screen a.regs.now a.cpu a.view memory a.ram.now a.w
     (case-SCRSET (length a.ram.now) (joined a.regs.now a.cpu a.view) a.w c.requires.0
-    ∙ ap (λ (t : Bool). choose (not t) 17 0) sound-is
+    ∙ ap (λ (t : Bool). choose (not t) 17 0) (is_sound (goal.at.returns c).After-sound)
     ∙ rw c.if-not-sound.false)
     _ c.requires.0
     (c.go.ensures ∙ rw (c.screened.ensures, c.screen_set-screen.ensures))

@@ -3,7 +3,6 @@ use mathlib.Core.Path.{sym, ◌∙◌}
 use native.Mathlib.Omega.{arith}
 use Rattle.edges.specs.Edges.{edge_from}
 use Rattle.edges.proofs.Large.{edge_never_too_large, pixel-answer, neither}
-use borrow.Author.Rules.{rules}
 use Rattle.edges.proofs.ranges.edge_too_large.Goals as goal
 
 pub returns : goal.returns

@@ -7,7 +7,7 @@ use Rattle.ints.proofs.Machine.{reads_as}
 use Rattle.rules.specs.Triangles.{Edge, sample, edge_value}
 use Rattle.rules.specs.Numbers.{edge_too_large}
 use Rattle.edges.specs.Edges.{edge_from}
-use Rattle.edges.proofs.Within.{edge_within, read_in_range}
+use Rattle.edges.proofs.Within.{edge_within}
 use Rattle.edges.proofs.Codes.{answered_c, answered}
 use Rattle.edges.proofs.Large.{out_of_range}
 use Rattle.edges.proofs.ranges.pixel_too_large.Goals as goal
