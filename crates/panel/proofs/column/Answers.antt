@@ -24,6 +24,7 @@ use Rattle.samples.proofs.Scale.{scale_least, scale-most}
 use Rattle.samples.proofs.Taken.{column-none, column-ends}
 use Rattle.panel.specs.Columns.{Asked}
 use Rattle.panel.proofs.Drawing.{drawn_same, drawn-none, column_is_bar, column_is_empty}
+use Rattle.panel.proofs.column.Goals.{After-row_of-2}
 use Rattle.panel.proofs.column.Goals as goal
 
 module _ {ram_length : ℕ} {s : Screen} {w : Waveform} (h : Asked ram_length s w) where
@@ -70,24 +71,36 @@ row_of-requires c = omega (arith, c.height-h.ensures, flat c.requires.0)
 pub row_of-requires-2 : goal.row_of-requires-2
 row_of-requires-2 c = omega (arith, c.height-h.ensures, flat c.requires.0)
 
+-- the ends of the column's samples, and their rows, as the code has them
+high_fits : (c : After-row_of-2) → SFits w16 c.ends-e.result.largest
+high_fits c = search rules
+
+low_fits : (c : After-row_of-2) → SFits w16 c.ends-e.result.smallest
+low_fits c = search rules
+
+top : (c : After-row_of-2) → c.row_of.result ≡ row_of (height c.args.s.size) c.ends-e.result.largest
+top c = row_is (high_fits c) c.height-h.ensures c.row_of.ensures
+
+bottom : (c : After-row_of-2) → c.row_of-2.result ≡ row_of (height c.args.s.size) c.ends-e.result.smallest
+bottom c = row_is (low_fits c) c.height-h.ensures c.row_of-2.ensures
+
+known : (c : After-row_of-2) → let a = c.args in
+    extremes.Ends (column_samples (waveform a.samples.now a.n a.d a.colour) a.x) c.ends-e.result.largest c.ends-e.result.smallest
+known c =
+    let a = c.args in
+    let w : Waveform = waveform a.samples.now a.n a.d a.colour in
+    column-ends w a.x (reaches c.ranges.n c.ranges.d c.reached-r.ensures) c.ends-e.ensures
+
 pub fill-requires : goal.fill-requires
 fill-requires c =
     let a = c.args in
-    let w : Waveform = waveform a.samples.now a.n a.d a.colour in
-    let high : ℤ = c.ends-e.result.largest in
-    let low : ℤ = c.ends-e.result.smallest in
-    let high_fits : SFits w16 high = search rules in
-    let low_fits : SFits w16 low = search rules in
-    let top : c.row_of.result ≡ row_of (height a.s.size) high = row_is high_fits c.height-h.ensures c.row_of.ensures in
-    let bottom : c.row_of-2.result ≡ row_of (height a.s.size) low = row_is low_fits c.height-h.ensures c.row_of-2.ensures in
-    let known : extremes.Ends (column_samples w a.x) high low =
-    column-ends w a.x (reaches c.ranges.n c.ranges.d c.reached-r.ensures) c.ends-e.ensures in
+    let p = (goal.at.fill-requires c).After-row_of-2 in
     let h = (sound_facts ((screen-accepted (length a.ram.now) a.s).0 c.requires.0.screen).1).height_low in
     record {
       screen = c.requires.0.screen;
       across = c.requires.1;
-      ordered = omega (arith, top, bottom, row_order (height a.s.size) (extremes.low-high known) (scale-most high_fits));
-      down = omega (arith, bottom, row_on_screen (scale-most low_fits) (height a.s.size) (scale_least low_fits) h);
+      ordered = omega (arith, top p, bottom p, row_order (height a.s.size) (extremes.low-high (known p)) (scale-most (high_fits p)));
+      down = omega (arith, bottom p, row_on_screen (scale-most (low_fits p)) (height a.s.size) (scale_least (low_fits p)) h);
       half = omega arith;
     }
 
@@ -95,14 +108,7 @@ pub returns : goal.returns
 returns c =
     let a = c.args in
     let w : Waveform = waveform a.samples.now a.n a.d a.colour in
-    let high : ℤ = c.ends-e.result.largest in
-    let low : ℤ = c.ends-e.result.smallest in
-    let high_fits : SFits w16 high = search rules in
-    let low_fits : SFits w16 low = search rules in
-    let top : c.row_of.result ≡ row_of (height a.s.size) high = row_is high_fits c.height-h.ensures c.row_of.ensures in
-    let bottom : c.row_of-2.result ≡ row_of (height a.s.size) low = row_is low_fits c.height-h.ensures c.row_of-2.ensures in
-    let known : extremes.Ends (column_samples w a.x) high low =
-    column-ends w a.x (reaches c.ranges.n c.ranges.d c.reached-r.ensures) c.ends-e.ensures in
+    let p = (goal.at.returns c).After-row_of-2 in
     drawn_same
-    (λ x y h v. ap₂ (λ t b. in_bar (bar a.x t b a.colour) x y) top bottom ∙ column_is_bar w a.s a.x known x y)
+    (λ x y h v. ap₂ (λ t b. in_bar (bar a.x t b a.colour) x y) (top p) (bottom p) ∙ column_is_bar w a.s a.x (known p) x y)
     c.fill.ensures

@@ -8,7 +8,12 @@ use borrow.Author.Rules.{rules}
 use Rattle.ram.specs.Ram.{store_half}
 use Rattle.screen.specs.Fills.{filled}
 use Rattle.screen.proofs.Fills.{filled_none, filled_more, length-filled}
+use Rattle.screen.proofs.clear.fill.Goals.{In-loop-a}
 use Rattle.screen.proofs.clear.fill.Goals as goal
+
+-- storing changes no length
+kept : (c : In-loop-a) → length c.loop-a.ram ≡ length c.args.ram.now
+kept c = ap length c.loop-a.invariant.3 ∙ length-filled _ _ _ _
 
 pub overflow_cast-high : goal.overflow_cast-high
 overflow_cast-high c = search rules
@@ -29,17 +34,13 @@ pub overflow_add-a : goal.overflow_add-a
 overflow_add-a c = omega arith
 
 pub bounds-ram-a : goal.bounds-ram-a
-bounds-ram-a c =
-    let kept : length c.loop-a.ram ≡ length c.args.ram.now = ap length c.loop-a.invariant.3 ∙ length-filled _ _ _ _ in
-    omega (arith, kept)
+bounds-ram-a c = omega (arith, kept (goal.at.bounds-ram-a c).In-loop-a)
 
 pub overflow_add-ram : goal.overflow_add-ram
 overflow_add-ram c = omega arith
 
 pub bounds-ram-a-in-loop-a : goal.bounds-ram-a-in-loop-a
-bounds-ram-a-in-loop-a c =
-    let kept : length c.loop-a.ram ≡ length c.args.ram.now = ap length c.loop-a.invariant.3 ∙ length-filled _ _ _ _ in
-    simp length-set (omega (arith, kept))
+bounds-ram-a-in-loop-a c = simp length-set (omega (arith, kept (goal.at.bounds-ram-a-in-loop-a c).In-loop-a))
 
 pub overflow_add-a-in-loop-a : goal.overflow_add-a-in-loop-a
 overflow_add-a-in-loop-a c = omega arith
