@@ -6,6 +6,7 @@ pub mod Jumps
 pub mod Moves
 pub mod Tree
 pub mod Halts
+pub mod Answers
 pub mod Step
 pub mod Run
 pub mod Calls

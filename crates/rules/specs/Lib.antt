@@ -4,5 +4,6 @@ pub mod Folds
 pub mod Sizes
 pub mod Triangles
 pub mod Numbers
+pub mod Answers
 pub mod Calls
 pub mod Lists
