@@ -1,3 +1,2 @@
--- Half-words and words in RAM, and what loading a half-word promises.
+-- Half-words and words in RAM.
 pub mod Ram
-pub mod Loads
