@@ -3,6 +3,7 @@
 use Prim.Native.Nat.{ℕ, ◌+◌, ◌*◌, ◌-◌, ◌/◌, ◌%◌, ◌≤◌, ◌<◌}
 use mathlib.Core.Path.{◌≡◌, refl, sym, ◌∙◌, ap}
 use mathlib.Core.Logic.{◌⊎◌, inl, inr}
+use mathlib.Core.Bool.{true}
 use mathlib.Core.List.{List}
 use native.Mathlib.Omega.{arith}
 use native.Mathlib.Nat.{mul_comm}
@@ -11,9 +12,10 @@ use borrow.Author.Tests.{eq-eqb, ne_eqb}
 use Rattle.rules.specs.declared.Screen.{Screen}
 use Rattle.rules.specs.Folds.{upto}
 use Rattle.ram.specs.Ram.{store_half}
-use Rattle.rules.specs.Sizes.{width, height, area, pixel, put_pixel}
+use Rattle.rules.specs.Sizes.{width, height, area, sound, pixel, put_pixel}
 use Rattle.rules.specs.Numbers.{screen_number}
 use Rattle.rules.specs.Calls.{cleared, Clears}
+use Rattle.rules.proofs.Refusals.{screen_number_passed}
 use Rattle.rules.proofs.Folds.{upto_more, upto-keeps}
 use Rattle.ram.proofs.Halves.{Apart, length-store_half, store_half-comm}
 use Rattle.rules.proofs.Strips.{Sound, colour_in_area, depth_in_area}
@@ -84,6 +86,9 @@ module _ {n : ℕ} {s : Screen} (k : Sound n s) (c d : ℕ) where
   pub areas_filled : (m : List ℕ) {m₁ m₂ : List ℕ} {count : ℕ} → count ≡ pixel_count s
       → m₁ ≡ filled s.colour c count m → m₂ ≡ filled s.depth d count m₁ → m₂ ≡ cleared s c d m
   areas_filled m e p q = rw (q, p, e) (two-fills m)
+
+pub is_accepted : (n : ℕ) (s : Screen) → 0 ≡ screen_number n s → sound n s ≡ true
+is_accepted n s e = (screen_number_passed (sym e)).is_sound
 
 module _ (m : List ℕ) (s : Screen) (c d : ℕ) (r : ℕ) (answers : r ≡ screen_number (length m) s) where
   pub refused : ¬ (r ≡ 0) → Clears m s (pixel c d) r m

@@ -1,10 +1,11 @@
 ghost use Rattle.std.specs.Prelude.{◌+◌, ◌*◌, ◌≤◌, ◌≡◌, length, true};
 ghost use Rattle.rules.specs.Sizes.{pixel, sound};
+ghost use Rattle.rules.specs.Answers.{number_of};
 ghost use Rattle.rules.specs.Calls.{Clears, cleared};
 ghost use Rattle.screen.specs.Fills.{filled};
 
-use crate::sizes::{pixel_count, screen_number};
-use rules::Screen;
+use crate::sizes::{pixel_count, screen_check};
+use rules::{Refusal, Screen};
 
 // One stretch of bytes, so that the stores become wide ones.
 fn fill(ram: &mut [u8], start: usize, count: usize, v: u16)
@@ -32,14 +33,11 @@ fn fill_areas(ram: &mut [u8], s: Screen, colour: u16, depth: u16)
     fill(ram, s.depth as usize, count, depth);
 }
 
-#[tactic(auto, using(crate::proofs::Fills::refused))]
-pub fn clear(ram: &mut [u8], s: Screen, colour: u16, depth: u16) -> u32
-    ensures { Clears ram.old s (pixel colour depth) result ram.new }
+#[tactic(auto, using(crate::proofs::Fills::is_accepted, crate::proofs::Fills::refused, crate::proofs::Fills::done))]
+pub fn clear(ram: &mut [u8], s: Screen, colour: u16, depth: u16) -> Result<(), Refusal>
+    ensures { Clears ram.old s (pixel colour depth) (number_of result) ram.new }
 {
-    let number = screen_number(ram.len(), s);
-    if number != 0 {
-        return number;
-    }
+    screen_check(ram.len(), s)?;
     fill_areas(ram, s, colour, depth);
-    0
+    Ok(())
 }

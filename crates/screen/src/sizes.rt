@@ -1,9 +1,10 @@
 ghost use Rattle.std.specs.Prelude.{◌*◌, ◌^◌, ◌<◌, ◌&&◌, ◌≡◌};
+ghost use Rattle.rules.specs.Answers.{number_of};
 ghost use Rattle.rules.specs.Numbers.{screen_number, too_long};
 ghost use Rattle.rules.specs.Sizes.{area, colour_at, depth_at, height, size_in_range, sound, sound_areas, width};
 ghost use Rattle.screen.specs.Areas.{areas_apart, areas_fit, between, even_starts, stands_at};
 
-use rules::Screen;
+use rules::{Refusal, Screen};
 
 pub fn width(size: u32) -> u32
     ensures { result ≡ width size }
@@ -88,16 +89,17 @@ pub fn too_long(len: usize) -> bool
     4194304 < len
 }
 
-// The number of a call that asks for nothing but a sound screen.
-pub fn screen_number(len: usize, s: Screen) -> u32
-    ensures { result ≡ screen_number len s }
+// What a call that asks for nothing but a sound screen refuses.
+#[tactic(auto, unfolding(rules::specs::Numbers::screen_number))]
+pub fn screen_check(len: usize, s: Screen) -> Result<(), Refusal>
+    ensures { number_of result ≡ screen_number len s }
 {
     if too_long(len) {
-        3
+        Err(Refusal::RamTooLong)
     } else if sound(len, s) {
-        0
+        Ok(())
     } else {
-        5
+        Err(Refusal::UnsoundScreen)
     }
 }
 
