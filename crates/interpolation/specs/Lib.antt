@@ -2,3 +2,4 @@
 pub mod Interpolation
 pub mod Nearness
 pub mod Refusals
+pub mod Answers

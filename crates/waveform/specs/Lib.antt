@@ -2,3 +2,4 @@
 pub mod Panel
 pub mod Bars
 pub mod Members
+pub mod Answers
