@@ -1,35 +1,35 @@
 // Arithmetic modulo 2^32, and pairs of such numbers in a word of 64 bits.
 #![tactic(auto)]
 
-ghost use Rattle.std.specs.Prelude.{◌≡◌, ◌+◌, ◌*◌, ◌%◌, ◌^◌, ◌<◌};
+ghost use Rattle.std.specs.Prelude.{◌≡◌, ◌+◌, ◌*◌, ◌%◌, ◌^◌};
 ghost use Rattle.ints.specs.Modulo.{mod32};
 
 // z modulo 2^32.
 pub fn low32(z: i64) -> u32
     ensures { result ≡ mod32 z }
 {
-    (z & 4294967295) as u32
+    (z.cast_unsigned() % 4294967296) as u32
 }
 
 // A signed number modulo 2^32: its bits.
 pub fn bits32(v: i32) -> u32
     ensures { result ≡ mod32 v }
 {
-    low32(v as i64)
+    v.cast_unsigned()
 }
 
 // The sum modulo 2^32.
 pub fn sum32(a: u32, b: u32) -> u32
     ensures { result ≡ (a + b) % 4294967296 }
 {
-    ((a as u64 + b as u64) % 4294967296) as u32
+    a.wrapping_add(b)
 }
 
 // The product modulo 2^32.
 pub fn product32(a: u32, b: u32) -> u32
     ensures { result ≡ a * b % 4294967296 }
 {
-    ((a as u64 * b as u64) % 4294967296) as u32
+    a.wrapping_mul(b)
 }
 
 // c + a·x + b·y modulo 2^32.
@@ -46,10 +46,9 @@ pub fn pair(high: u32, low: u32) -> u64
     high as u64 * 4294967296 + low as u64
 }
 
-// n times a pair modulo 2^64, where the lower number stays in its half: each half by itself.
+// n times a pair modulo 2^64: where the lower number stays in its half, each half by itself.
 pub fn pair_times(p: u64, n: u32) -> u64
-    requires { p % 4294967296 * n < 4294967296 }
     ensures { result ≡ p * n % 2 ^ 64 }
 {
-    p / 4294967296 * n as u64 % 4294967296 * 4294967296 + p % 4294967296 * n as u64
+    p.wrapping_mul(n as u64)
 }

@@ -1,2 +1,0 @@
-pub mod Product
-pub mod Pairs
