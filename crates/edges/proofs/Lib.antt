@@ -1,4 +1,3 @@
 pub mod Within
 pub mod Codes
 pub mod Large
-pub mod Between

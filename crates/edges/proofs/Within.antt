@@ -127,31 +127,32 @@ six v h =
     let b = and_true {a = X1} {b = Y1} c.0 in
     record { in_x1 = b.0; in_y1 = b.1; in_x2 = c.1; in_y2 = d.1; in_x3 = e.1; in_y3 = f.1 }
 
-pub edges_in_range : (v : Vertices) → vertices_in_range v ≡ true
-    → (edge_in_range (edge1 v) ≡ true) × (edge_in_range (edge2 v) ≡ true) × (edge_in_range (edge3 v) ≡ true)
-edges_in_range v h =
-    let s = six v h in (
-      rw (s.in_x1, s.in_y1, s.in_x2, s.in_y2),
-      rw (s.in_x2, s.in_y2, s.in_x3, s.in_y3),
-      rw (s.in_x3, s.in_y3, s.in_x1, s.in_y1),
-    )
+module _ (v : Vertices) (h : vertices_in_range v ≡ true) where
+  pub edge1_in_range : edge_in_range (edge1 v) ≡ true
+  edge1_in_range = let s = six v h in rw (s.in_x1, s.in_y1, s.in_x2, s.in_y2)
 
--- an edge as a callee reads it, from the machine's words
-abbrev pub read : Edge → Edge
+  pub edge2_in_range : edge_in_range (edge2 v) ≡ true
+  edge2_in_range = let s = six v h in rw (s.in_x2, s.in_y2, s.in_x3, s.in_y3)
+
+  pub edge3_in_range : edge_in_range (edge3 v) ≡ true
+  edge3_in_range = let s = six v h in rw (s.in_x3, s.in_y3, s.in_x1, s.in_y1)
+
+  pub edges_in_range : (edge_in_range (edge1 v) ≡ true) × (edge_in_range (edge2 v) ≡ true) × (edge_in_range (edge3 v) ≡ true)
+  edges_in_range = (edge1_in_range, edge2_in_range, edge3_in_range)
+
+-- the same, as it is read back from the machine's words
+abbrev read : Edge → Edge
 read e =
     edge_from (to_z w32 (of_z w32 e.x1)) (to_z w32 (of_z w32 e.y1)) (to_z w32 (of_z w32 e.x2)) (to_z w32 (of_z w32 e.y2))
 
-module _ (e : Edge) (h : edge_in_range e ≡ true) where
-  pub read_edge : read e ≡ e
-  read_edge =
-      let w = edge_within e h in
-      λ i.
-      record {
-        x1 = to_z-of_z w32 e.x1 (fits_32 w.in_x1 (omega arith)) i;
-        y1 = to_z-of_z w32 e.y1 (fits_32 w.in_y1 (omega arith)) i;
-        x2 = to_z-of_z w32 e.x2 (fits_32 w.in_x2 (omega arith)) i;
-        y2 = to_z-of_z w32 e.y2 (fits_32 w.in_y2 (omega arith)) i;
-      }
-
-  pub read_in_range : edge_in_range (read e) ≡ true
-  read_in_range = ap edge_in_range read_edge ∙ h
+pub read_in_range : (e : Edge) → edge_in_range e ≡ true → edge_in_range (read e) ≡ true
+read_in_range e h =
+    let w = edge_within e h in
+    let read_edge : read e ≡ e = λ i.
+    record {
+      x1 = to_z-of_z w32 e.x1 (fits_32 w.in_x1 (omega arith)) i;
+      y1 = to_z-of_z w32 e.y1 (fits_32 w.in_y1 (omega arith)) i;
+      x2 = to_z-of_z w32 e.x2 (fits_32 w.in_x2 (omega arith)) i;
+      y2 = to_z-of_z w32 e.y2 (fits_32 w.in_y2 (omega arith)) i;
+    } in
+    ap edge_in_range read_edge ∙ h

@@ -1,2 +1,3 @@
--- An edge from its four numbers, and which are in range.
+-- An edge from its four numbers, which are in range, and the edge that a struct is.
 pub mod Edges
+pub mod Corners

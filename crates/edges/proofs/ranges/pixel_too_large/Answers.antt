@@ -1,25 +1,25 @@
--- The two tests are those of signed 32 bits, of the edge's value as its function reads it.
-use mathlib.Core.Path.{sym, ◌∙◌, ap}
-use mathlib.Core.Bool.{◌||◌}
-use lib.IntN.{ℤ, pos, negsuc}
-use lib.Signed.{lt_z}
-use Rattle.ints.proofs.Machine.{reads_as}
-use Rattle.rules.specs.Triangles.{Edge, sample, edge_value}
-use Rattle.rules.specs.Numbers.{edge_too_large}
-use Rattle.edges.specs.Edges.{edge_from}
-use Rattle.edges.proofs.Within.{edge_within}
-use Rattle.edges.proofs.Codes.{answered_c, answered}
-use Rattle.edges.proofs.Large.{out_of_range}
+-- The value is within 32 bits by its bound, and so is the definition's.
+use mathlib.Core.Path.{◌≡◌, refl, sym, ◌∙◌, subst}
+use mathlib.Core.Bool.{false}
+use lib.IntN.{ℤ}
+use mir.Syntax.{w32, w64}
+use mir.Val.{SFits, to_z, of_z}
+use mir.ValLaws.{to_z-of_z}
+use Rattle.std.specs.Prelude.{Result, Ok, Err}
+use Rattle.std.specs.Result.{OkIff, is_err}
+use Rattle.ints.proofs.Bounds.{Within, fits_32, fits_64}
+use Rattle.edges.specs.Corners.{edge_of}
+use Rattle.edges.proofs.Large.{never_too_large}
 use Rattle.edges.proofs.ranges.pixel_too_large.Goals as goal
+use native.Mathlib.Omega.{arith}
+
+fits : {E : Type 0} (r : Result ℤ E) (v : ℤ) → OkIff r (SFits w32 (to_z w64 (of_z w64 v))) (to_z w64 (of_z w64 v)) → Within 419659776 v → is_err r ≡ false
+fits (Ok n) v h w = refl
+fits (Err e) v h w =
+    absurd (h (subst (SFits w32) (sym (to_z-of_z w64 v (fits_64 w (omega arith)))) (fits_32 w (omega arith))))
 
 pub returns : goal.returns
-unfolding edge_too_large
 returns c =
-    let edge : Edge = edge_from c.args.x1 c.args.y1 c.args.x2 c.args.y2 in
-    let s = c in
-    let at = sample s.args.x s.args.y in
-    let w = edge_within edge s.requires.0 in
-    let z = answered edge at s.requires.0 c.edge_value-v.ensures in
-    let v = answered_c edge w s.args.x s.args.y s.requires.1 s.requires.2 c.edge_value-v.result z in
-    ap (λ (z : ℤ). lt_z z (negsuc 2147483647) || lt_z (pos 2147483647) z) (reads_as v tt ∙ z)
-    ∙ sym (out_of_range (edge_value edge at))
+    c.is_err.ensures.value
+    ∙ fits c.try_from.result c.value-v.result c.try_from.ensures (record { within = c.value-v.ensures.bound })
+    ∙ sym (never_too_large (edge_of c.args.e) c.args.e.in_range c.args.x c.args.y c.requires.columns c.requires.rows)

@@ -1,33 +1,19 @@
 -- No edge is too large and the triangle is not: both by the bound on an edge value.
-use mathlib.Core.Path.{sym, ◌∙◌}
-use Rattle.rules.specs.Triangles.{edge1, edge2, edge3}
-use Rattle.edges.proofs.Within.{edges_in_range, read_in_range}
-use Rattle.edges.proofs.Large.{triangle_never_too_large, edge_answer, neither}
+use mathlib.Core.Path.{◌≡◌, sym, ◌∙◌}
+use mathlib.Core.Bool.{false}
+use lib.Dec.{ltb}
+use Rattle.rules.specs.Folds.{pixels}
+use Rattle.rules.specs.Numbers.{edge_too_large}
+use Rattle.edges.specs.declared.values.Edge.{Edge}
+use Rattle.edges.specs.Corners.{edge_of}
+use Rattle.edges.proofs.Large.{edge_never_too_large, triangle_never_too_large, neither}
 use Rattle.edges.proofs.ranges.triangle_too_large.Goals as goal
-
-pub edge_too_large-requires : goal.edge_too_large-requires
-edge_too_large-requires c =
-    let s = c.requires in
-    (read_in_range (edge1 c.args.v) (edges_in_range c.args.v s.0).0, s.1, s.2, s.3, s.4)
-
-pub edge_too_large-requires-2 : goal.edge_too_large-requires-2
-edge_too_large-requires-2 c =
-    let s = c.requires in
-    (read_in_range (edge2 c.args.v) (edges_in_range c.args.v s.0).1, s.1, s.2, s.3, s.4)
-
-pub edge_too_large-requires-3 : goal.edge_too_large-requires-3
-edge_too_large-requires-3 c =
-    let s = c.requires in
-    (read_in_range (edge3 c.args.v) (edges_in_range c.args.v s.0).2, s.1, s.2, s.3, s.4)
 
 pub returns : goal.returns
 returns c =
-    let t = c.args.v in
     let s = c.requires in
-    let (r1, r2, r3) = edges_in_range t s.0 in
+    let never : (e : Edge) → ltb 0 (pixels (edge_too_large (edge_of e)) c.args.w c.args.h) ≡ false = λ e. edge_never_too_large (edge_of e) e.in_range c.args.w c.args.h s.columns s.rows in
     neither
-    (neither
-    (edge_answer (edge1 t) r1 c.edge_too_large.ensures s.2 s.4)
-    (edge_answer (edge2 t) r2 c.edge_too_large-2.ensures s.2 s.4))
-    (edge_answer (edge3 t) r3 c.edge_too_large-3.ensures s.2 s.4)
-    ∙ sym (triangle_never_too_large t s.0 _ _ s.2 s.4)
+    (neither (c.edge_too_large.ensures ∙ never c.edge1.result) (c.edge_too_large-2.ensures ∙ never c.edge2.result))
+    (c.edge_too_large-3.ensures ∙ never c.edge3.result)
+    ∙ sym (triangle_never_too_large c.args.c.vertices c.args.c.in_range _ _ s.columns s.rows)
