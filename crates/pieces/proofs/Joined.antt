@@ -8,6 +8,10 @@ use native.Mathlib.Omega.{arith}
 use lib.ListN.{length}
 use borrow.Author.Tests.{lt-leb, le-leb, ne_eqb}
 use Rattle.rules.specs.Folds.{choose}
+use Rattle.instructions.specs.declared.Halt.{Halt}
+use Rattle.instructions.specs.declared.Halt.TheVariants.{NoInstruction, PastProgram, OutsideData, NoTree, MoveOutsideData}
+use Rattle.instructions.specs.declared.Halt.TheVariants.{MoveOutsideRam, NoScreen}
+use Rattle.instructions.specs.Answers.{number_of_halt}
 use Rattle.instructions.specs.Opcodes.{current, ST, LI, ASRI, JMP, CALL}
 use Rattle.instructions.specs.Words.{opcode, r1, address, with_register}
 use Rattle.instructions.specs.Arithmetic.{result, sets_flags}
@@ -17,7 +21,7 @@ use Rattle.instructions.specs.Step.{Machine, with_registers, with_place, with_fl
 use Rattle.instructions.proofs.Effects.{effect-result, effect-CALL, effect_jump}
 use Rattle.pieces.specs.declared.state.Cpu.{Cpu}
 use Rattle.pieces.specs.declared.state.View.{View}
-use Rattle.pieces.specs.Pieces.{joined, machine, at, stopped, resulted}
+use Rattle.pieces.specs.Pieces.{joined, machine, at, resulted}
 use Rattle.pieces.specs.Steps.{stepped, RegisterSteps}
 use Rattle.pieces.proofs.Cases.{case-none}
 
@@ -25,23 +29,33 @@ use Rattle.pieces.proofs.Cases.{case-none}
 pub no_jump_below : (op : ℕ) → op < JMP → is_jump op ≡ false
 no_jump_below op h = rw (lt-leb JMP op h)
 
+-- a halt's number is never 0
+pub halt-not_zero : (h : Halt) → number_of_halt h ≢ 0
+halt-not_zero NoInstruction e = omega (arith, e)
+halt-not_zero PastProgram e = omega (arith, e)
+halt-not_zero OutsideData e = omega (arith, e)
+halt-not_zero NoTree e = omega (arith, e)
+halt-not_zero MoveOutsideData e = omega (arith, e)
+halt-not_zero MoveOutsideRam e = omega (arith, e)
+halt-not_zero NoScreen e = omega (arith, e)
+
 module _ (regs : List ℕ) (cpu : Cpu) (view : View) (memory ram : List ℕ) (w : ℕ) where
   abbrev before : Machine
-  before = machine regs cpu view memory ram
+  before = machine regs cpu 0 view memory ram
 
   abbrev halt : ℕ
-  halt = word_halt current (length ram) (joined regs cpu view) w
+  halt = word_halt current (length ram) (joined regs cpu 0 view) w
 
-  pub stops : (n : ℕ) (cpu' : Cpu) → cpu' ≡ stopped n cpu → halt ≡ n → n ≢ 0 → machine regs cpu' view memory ram ≡ stepped before w
+  pub stops : (h : Halt) → halt ≡ number_of_halt h → machine regs cpu (number_of_halt h) view memory ram ≡ stepped before w
   unfolding stepped with_halt
-  stops n cpu' h e d = rw (h, e, ne_eqb n 0 d)
+  stops h e = rw (e, ne_eqb (number_of_halt h) 0 (halt-not_zero h))
 
   -- any instruction but a jump goes on to the next place
   pub goes_onward : (regs' : List ℕ) (cpu' : Cpu) (view' : View) (memory' ram' : List ℕ)
       → halt ≡ 0
       → is_jump (opcode w) ≡ false
-      → effect before w ≡ machine regs' cpu' view' memory' ram'
-      → machine regs' (at (cpu.place + 1) cpu') view' memory' ram' ≡ stepped before w
+      → effect before w ≡ machine regs' cpu' 0 view' memory' ram'
+      → machine regs' (at (cpu.place + 1) cpu') 0 view' memory' ram' ≡ stepped before w
   unfolding stepped performed next_place with_place
   goes_onward regs' cpu' view' memory' ram' z j e = rw (z, e, j)
 
@@ -50,12 +64,13 @@ module _ (regs : List ℕ) (cpu : Cpu) (view : View) (memory ram : List ℕ) (w 
       → sets_flags (opcode w) ≡ true
       → is_jump (opcode w) ≡ false
       → v ≡ result memory regs w
-      → (regs' ≡ with_register regs (r1 w) v) × (cpu' ≡ resulted v cpu)
-      → machine regs' cpu' view memory ram ≡ stepped before w
+      → regs' ≡ with_register regs (r1 w) v
+      → cpu' ≡ resulted v cpu
+      → machine regs' cpu' 0 view memory ram ≡ stepped before w
   unfolding after_result with_flags with_registers
-  puts_result v regs' cpu' z f j hv (hr, hc) =
+  puts_result v regs' cpu' z f j hv hr hc =
       rw (hr, hc, hv)
-      (goes_onward _ (record { place = cpu.place; negative = _; zero = _; halt = cpu.halt }) view memory ram z j
+      (goes_onward _ (record { place = cpu.place; negative = _; zero = _ }) view memory ram z j
       (effect-result before w f))
 
   -- a jump's place
@@ -63,11 +78,11 @@ module _ (regs : List ℕ) (cpu : Cpu) (view : View) (memory ram : List ℕ) (w 
     pub calls : (regs' : List ℕ)
         → opcode w ≡ CALL
         → regs' ≡ with_register regs 31 (cpu.place + 1)
-        → machine regs' (at to cpu) view memory ram ≡ stepped before w
+        → machine regs' (at to cpu) 0 view memory ram ≡ stepped before w
     unfolding stepped performed next_place with_place after_call with_registers
     calls regs' e hr = rw (ht, hr, z, effect-CALL before w e, e)
 
-    pub jumps : is_jump (opcode w) ≡ true → opcode w ≢ CALL → machine regs (at to cpu) view memory ram ≡ stepped before w
+    pub jumps : is_jump (opcode w) ≡ true → opcode w ≢ CALL → machine regs (at to cpu) 0 view memory ram ≡ stepped before w
     unfolding stepped performed next_place with_place
     jumps j d = rw (ht, z, effect_jump before w j d, j)
 
@@ -75,12 +90,13 @@ module _ (regs : List ℕ) (cpu : Cpu) (view : View) (memory ram : List ℕ) (w 
 pub register-result : (regs : List ℕ) (cpu : Cpu) (w v : ℕ) (regs' : List ℕ) (cpu' : Cpu)
     → (LI ≤ opcode w) × (opcode w ≤ ASRI)
     → ((memory : List ℕ) → v ≡ result memory regs w)
-    → (regs' ≡ with_register regs (r1 w) v) × (cpu' ≡ resulted v cpu)
+    → regs' ≡ with_register regs (r1 w) v
+    → cpu' ≡ resulted v cpu
     → RegisterSteps w regs cpu regs' cpu'
-register-result regs cpu w v regs' cpu' (l, h) hv p memory ram view =
+register-result regs cpu w v regs' cpu' (l, h) hv hr hc memory ram view =
     puts_result regs cpu view memory ram w v regs' cpu'
-    (case-none (length ram) (joined regs cpu view) w (omega (arith, l)) (omega (arith, h)))
+    (case-none (length ram) (joined regs cpu 0 view) w (omega (arith, l)) (omega (arith, h)))
     (rw (le-leb (opcode w) ASRI h, ne_eqb (opcode w) ST (λ q. omega (arith, l))))
     (no_jump_below (opcode w) (omega (arith, h)))
     (hv memory)
-    p
+    hr hc

@@ -8,38 +8,36 @@ use Rattle.instructions.specs.Step.{Machine, together}
 use Rattle.pieces.specs.declared.state.Cpu.{Cpu}
 use Rattle.pieces.specs.declared.state.View.{View}
 
-abbrev pub joined : List ℕ → Cpu → View → State
-joined regs cpu view = record {
+-- with the number of the halt, 0 for none
+abbrev pub joined : List ℕ → Cpu → ℕ → View → State
+joined regs cpu halt view = record {
   regs = regs;
   place = cpu.place;
   negative = cpu.negative;
   zero = cpu.zero;
-  halt = cpu.halt;
+  halt = halt;
   shown = view.shown;
   screen = view.screen;
   planted = view.planted;
   tree = view.tree;
 }
 
-abbrev pub machine : List ℕ → Cpu → View → List ℕ → List ℕ → Machine
-machine regs cpu view memory ram = together (joined regs cpu view) memory ram
+abbrev pub machine : List ℕ → Cpu → ℕ → View → List ℕ → List ℕ → Machine
+machine regs cpu halt view memory ram = together (joined regs cpu halt view) memory ram
 
 -- the pieces of a state
 abbrev pub cpu_of : State → Cpu
-cpu_of s = record { place = s.place; negative = s.negative; zero = s.zero; halt = s.halt }
+cpu_of s = record { place = s.place; negative = s.negative; zero = s.zero }
 
 abbrev pub view_of : State → View
 view_of s = record { shown = s.shown; planted = s.planted; screen = s.screen; tree = s.tree }
 
--- on to a place, at a halt, and after a result
+-- on to a place, and after a result
 abbrev pub at : ℕ → Cpu → Cpu
-at place cpu = record { place = place; negative = cpu.negative; zero = cpu.zero; halt = cpu.halt }
-
-abbrev pub stopped : ℕ → Cpu → Cpu
-stopped number cpu = record { place = cpu.place; negative = cpu.negative; zero = cpu.zero; halt = number }
+at place cpu = record { place = place; negative = cpu.negative; zero = cpu.zero }
 
 abbrev pub resulted : ℕ → Cpu → Cpu
-resulted v cpu = record { place = cpu.place + 1; negative = negative_flag v; zero = zero_flag v; halt = cpu.halt }
+resulted v cpu = record { place = cpu.place + 1; negative = negative_flag v; zero = zero_flag v }
 
 -- SCRSET: a screen, and no tree; the TREE instructions: a tree
 abbrev pub screened : Screen → View → View

@@ -1,9 +1,10 @@
 -- What a step may count on, and what it leaves, in pieces.
-use Rattle.std.specs.Prelude.{ℕ, ◌≤◌, ◌<◌, ◌≡◌, true, false, List, length, eqb}
+use Rattle.std.specs.Prelude.{ℕ, ◌≤◌, ◌<◌, ◌≡◌, true, false, List, length, eqb, Result, Ok, Err}
 use Rattle.rules.specs.Folds.{choose}
 use Rattle.rules.specs.Sizes.{ram_limit, sound}
+use Rattle.instructions.specs.declared.Halt.{Halt}
+use Rattle.instructions.specs.Answers.{halt_of}
 use Rattle.instructions.specs.Opcodes.{current}
-use Rattle.instructions.specs.Words.{register}
 use Rattle.instructions.specs.Tree.{refuses_place}
 use Rattle.instructions.specs.Halts.{word_halt}
 use Rattle.instructions.specs.Step.{Machine, with_state, with_halt, performed}
@@ -17,53 +18,73 @@ stepped m w =
     choose (eqb (word_halt current (length m.ram) m.state w) 0) (performed m w)
     (with_state (with_halt (word_halt current (length m.ram) m.state w) m.state) m)
 
--- "R0 is always 0", and the place is in a program of at most 1,024 words
-pub record Going (regs : List ℕ) (cpu : Cpu) : Type 0 where
-  pub zero_register : register regs 0 ≡ 0
-  pub inside : cpu.place < 1024
+-- after a step that answers where it goes on or its halt: a halt moves nothing
+abbrev pub left : Cpu → Result Cpu Halt → Cpu
+left cpu (Ok next) = next
+left cpu (Err _) = cpu
 
--- what an instruction up to WRITE touches
+-- what an instruction up to WRITE touches, and its halt's number, 0 for none
 pub record Plain : Type 0 where
   pub regs : List ℕ
   pub cpu : Cpu
+  pub halt : ℕ
   pub memory : List ℕ
   pub ram : List ℕ
 
 abbrev pub plain : List ℕ → Cpu → List ℕ → List ℕ → Plain
-plain regs cpu memory ram = record { regs = regs; cpu = cpu; memory = memory; ram = ram }
+plain regs cpu memory ram = record { regs = regs; cpu = cpu; halt = 0; memory = memory; ram = ram }
+
+abbrev pub plain_after : List ℕ → Cpu → Result Cpu Halt → List ℕ → List ℕ → Plain
+plain_after regs cpu answer memory ram = record {
+  regs = regs;
+  cpu = left cpu answer;
+  halt = halt_of answer;
+  memory = memory;
+  ram = ram;
+}
 
 -- its step, which may be a halt, whatever screen and tree there are
 abbrev pub Steps : ℕ → Plain → Plain → Type 0
 Steps w p p' =
     (view : View)
-    → machine p'.regs p'.cpu view p'.memory p'.ram
-    ≡ stepped (machine p.regs p.cpu view p.memory p.ram) w
+    → machine p'.regs p'.cpu p'.halt view p'.memory p'.ram
+    ≡ stepped (machine p.regs p.cpu p.halt view p.memory p.ram) w
 
 -- of one that leaves the RAM alone, whatever it holds
 abbrev pub DataSteps : ℕ → (List ℕ → Plain) → (List ℕ → Plain) → Type 0
 DataSteps w p p' = (ram : List ℕ) → Steps w (p ram) (p' ram)
 
--- of one that touches the registers alone, whatever the memories hold
+-- of one that touches the registers alone and never halts, whatever the memories hold
 abbrev pub RegisterSteps : ℕ → List ℕ → Cpu → List ℕ → Cpu → Type 0
 RegisterSteps w regs cpu regs' cpu' =
     (memory ram : List ℕ) → Steps w (plain regs cpu memory ram) (plain regs' cpu' memory ram)
 
--- what an instruction from SCRSET on touches
+-- what an instruction from SCRSET on touches, and its halt's number
 pub record Viewing : Type 0 where
   pub regs : List ℕ
   pub cpu : Cpu
+  pub halt : ℕ
   pub view : View
   pub ram : List ℕ
 
 abbrev pub viewing : List ℕ → Cpu → View → List ℕ → Viewing
-viewing regs cpu view ram = record { regs = regs; cpu = cpu; view = view; ram = ram }
+viewing regs cpu view ram = record { regs = regs; cpu = cpu; halt = 0; view = view; ram = ram }
+
+abbrev pub viewing_after : List ℕ → Cpu → Result Cpu Halt → View → List ℕ → Viewing
+viewing_after regs cpu answer view ram = record {
+  regs = regs;
+  cpu = left cpu answer;
+  halt = halt_of answer;
+  view = view;
+  ram = ram;
+}
 
 -- its step, which may be a halt, whatever the data memory holds
 abbrev pub ViewSteps : ℕ → Viewing → Viewing → Type 0
 ViewSteps w s s' =
     (memory : List ℕ)
-    → machine s'.regs s'.cpu s'.view memory s'.ram
-    ≡ stepped (machine s.regs s.cpu s.view memory s.ram) w
+    → machine s'.regs s'.cpu s'.halt s'.view memory s'.ram
+    ≡ stepped (machine s.regs s.cpu s.halt s.view memory s.ram) w
 
 -- of one that leaves the RAM alone, whatever it holds
 abbrev pub TreeSteps : ℕ → (List ℕ → Viewing) → (List ℕ → Viewing) → Type 0
