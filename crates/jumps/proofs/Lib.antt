@@ -1,1 +1,1 @@
-pub mod Likely
+pub mod Places

@@ -81,3 +81,6 @@ module _ (memory regs : List ℕ) (w : ℕ) where
   pub result-ASRI : opcode w ≡ ASRI → result memory regs w ≡ shifted_signed (in_r2 regs w) (imm w)
   unfolding result value
   result-ASRI e = rw e
+
+-- each by its opcode, as the functions of `results` cite them
+pub ruleset by_opcode = (result-LI, result-ADD, result-SUB, result-MUL, result-MULF, result-RECP, result-AND, result-OR, result-XOR, result-NOT, result-LSL, result-LSR, result-ASR, result-LSLI, result-LSRI, result-ASRI)

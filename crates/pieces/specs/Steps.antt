@@ -1,5 +1,5 @@
 -- What a step may count on, and what it leaves, in pieces.
-use Rattle.std.specs.Prelude.{ℕ, ◌≤◌, ◌<◌, ◌≡◌, true, false, List, length, eqb, Result, Ok, Err}
+use Rattle.std.specs.Prelude.{ℕ, ◌≤◌, ◌≡◌, true, false, List, length, eqb, Result, Ok, Err}
 use Rattle.rules.specs.Folds.{choose}
 use Rattle.rules.specs.Sizes.{ram_limit, sound}
 use Rattle.instructions.specs.declared.Halt.{Halt}

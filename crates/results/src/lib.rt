@@ -1,143 +1,159 @@
 // The instructions that put a result of the registers in r1: LI, and ADD to ASRI.
-#![tactic(auto)]
+#![tactic(auto, using(pieces::proofs::Results::by_opcode))]
 
-ghost use Rattle.std.specs.Prelude.{◌≡◌};
+ghost use Rattle.std.specs.Prelude.{◌≤◌, ◌<◌, ◌≡◌, ℕ, List};
 ghost use Rattle.instructions.specs.Opcodes.{LI, ADD, SUB, MUL, MULF, RECP, AND, OR, XOR, NOT, LSL, LSR, ASR, LSLI, LSRI, ASRI};
-ghost use Rattle.instructions.specs.Words.{opcode};
+ghost use Rattle.instructions.specs.Words.{in_r2, in_r3, opcode};
+ghost use Rattle.instructions.specs.Arithmetic.{result};
 ghost use Rattle.alu.specs.Reciprocals.{Reciprocals};
-ghost use Rattle.pieces.specs.Steps.{Going, RegisterSteps};
+ghost use Rattle.pieces.specs.Steps.{RegisterSteps};
 
 use alu::arithmetic::{difference, rounded_product, shifted_left, shifted_right, shifted_signed};
 use alu::fields::{imm, immediate};
 use alu::reciprocals::recp;
-use pieces::registers::{address_in, in_r2, in_r3, put_result};
+use pieces::registers::Registers;
 use pieces::state::Cpu;
 use words::{product32, sum32};
 
-pub fn do_li(w: u32, regs: &mut [u32; 32], cpu: Cpu) -> Cpu
-    requires { (opcode w ≡ LI) × Going regs.old cpu }
-    ensures { RegisterSteps w regs.old cpu regs.new result }
+// r1 gets what the operation makes of r2 and r3.
+fn operate<F: FnOnce(u32, u32) -> u32>(w: u32, regs: &mut Registers, cpu: Cpu, operation: F) -> Cpu
+    requires low { LI ≤ opcode w }
+    requires high { opcode w ≤ ASRI }
+    requires inside { cpu.place < 1024 }
+    requires callable { F.pre operation (in_r2 regs.old.words w) (in_r3 regs.old.words w) }
+    requires defined { (v : _) → F.post operation (in_r2 regs.old.words w) (in_r3 regs.old.words w) v → (memory : List ℕ) → v ≡ result memory regs.old.words w }
+    ensures { RegisterSteps w regs.old.words cpu regs.new.words result }
 {
-    let v = immediate(address_in(regs, w));
-    put_result(w, regs, cpu, v)
+    let v = operation(regs.in_r2(w), regs.in_r3(w));
+    regs.put_result(w, cpu, v)
 }
 
-pub fn do_add(w: u32, regs: &mut [u32; 32], cpu: Cpu) -> Cpu
-    requires { (opcode w ≡ ADD) × Going regs.old cpu }
-    ensures { RegisterSteps w regs.old cpu regs.new result }
+pub fn do_li(w: u32, regs: &mut Registers, cpu: Cpu) -> Cpu
+    requires opcode { opcode w ≡ LI }
+    requires inside { cpu.place < 1024 }
+    ensures { RegisterSteps w regs.old.words cpu regs.new.words result }
 {
-    let v = sum32(in_r2(regs, w), in_r3(regs, w));
-    put_result(w, regs, cpu, v)
+    let to = regs.address(w);
+    operate(w, regs, cpu, |_, _| immediate(to))
 }
 
-pub fn do_sub(w: u32, regs: &mut [u32; 32], cpu: Cpu) -> Cpu
-    requires { (opcode w ≡ SUB) × Going regs.old cpu }
-    ensures { RegisterSteps w regs.old cpu regs.new result }
+pub fn do_add(w: u32, regs: &mut Registers, cpu: Cpu) -> Cpu
+    requires opcode { opcode w ≡ ADD }
+    requires inside { cpu.place < 1024 }
+    ensures { RegisterSteps w regs.old.words cpu regs.new.words result }
 {
-    let v = difference(in_r2(regs, w), in_r3(regs, w));
-    put_result(w, regs, cpu, v)
+    operate(w, regs, cpu, sum32)
 }
 
-pub fn do_mul(w: u32, regs: &mut [u32; 32], cpu: Cpu) -> Cpu
-    requires { (opcode w ≡ MUL) × Going regs.old cpu }
-    ensures { RegisterSteps w regs.old cpu regs.new result }
+pub fn do_sub(w: u32, regs: &mut Registers, cpu: Cpu) -> Cpu
+    requires opcode { opcode w ≡ SUB }
+    requires inside { cpu.place < 1024 }
+    ensures { RegisterSteps w regs.old.words cpu regs.new.words result }
 {
-    let v = product32(in_r2(regs, w), in_r3(regs, w));
-    put_result(w, regs, cpu, v)
+    operate(w, regs, cpu, difference)
 }
 
-pub fn do_mulf(w: u32, regs: &mut [u32; 32], cpu: Cpu) -> Cpu
-    requires { (opcode w ≡ MULF) × Going regs.old cpu }
-    ensures { RegisterSteps w regs.old cpu regs.new result }
+pub fn do_mul(w: u32, regs: &mut Registers, cpu: Cpu) -> Cpu
+    requires opcode { opcode w ≡ MUL }
+    requires inside { cpu.place < 1024 }
+    ensures { RegisterSteps w regs.old.words cpu regs.new.words result }
 {
-    let v = rounded_product(in_r2(regs, w), in_r3(regs, w));
-    put_result(w, regs, cpu, v)
+    operate(w, regs, cpu, product32)
 }
 
-pub fn do_recp(w: u32, regs: &mut [u32; 32], cpu: Cpu, table: &[u32]) -> Cpu
-    requires { (opcode w ≡ RECP) × Going regs.old cpu × Reciprocals table.now }
-    ensures { RegisterSteps w regs.old cpu regs.new result }
+pub fn do_mulf(w: u32, regs: &mut Registers, cpu: Cpu) -> Cpu
+    requires opcode { opcode w ≡ MULF }
+    requires inside { cpu.place < 1024 }
+    ensures { RegisterSteps w regs.old.words cpu regs.new.words result }
 {
-    let v = recp(in_r2(regs, w), table);
-    put_result(w, regs, cpu, v)
+    operate(w, regs, cpu, rounded_product)
 }
 
-pub fn do_and(w: u32, regs: &mut [u32; 32], cpu: Cpu) -> Cpu
-    requires { (opcode w ≡ AND) × Going regs.old cpu }
-    ensures { RegisterSteps w regs.old cpu regs.new result }
+pub fn do_recp(w: u32, regs: &mut Registers, cpu: Cpu, table: &[u32]) -> Cpu
+    requires opcode { opcode w ≡ RECP }
+    requires inside { cpu.place < 1024 }
+    requires table { Reciprocals table.now }
+    ensures { RegisterSteps w regs.old.words cpu regs.new.words result }
 {
-    let v = in_r2(regs, w) & in_r3(regs, w);
-    put_result(w, regs, cpu, v)
+    operate(w, regs, cpu, |a, _| recp(a, table))
 }
 
-pub fn do_or(w: u32, regs: &mut [u32; 32], cpu: Cpu) -> Cpu
-    requires { (opcode w ≡ OR) × Going regs.old cpu }
-    ensures { RegisterSteps w regs.old cpu regs.new result }
+pub fn do_and(w: u32, regs: &mut Registers, cpu: Cpu) -> Cpu
+    requires opcode { opcode w ≡ AND }
+    requires inside { cpu.place < 1024 }
+    ensures { RegisterSteps w regs.old.words cpu regs.new.words result }
 {
-    let v = in_r2(regs, w) | in_r3(regs, w);
-    put_result(w, regs, cpu, v)
+    operate(w, regs, cpu, |a, b| a & b)
 }
 
-pub fn do_xor(w: u32, regs: &mut [u32; 32], cpu: Cpu) -> Cpu
-    requires { (opcode w ≡ XOR) × Going regs.old cpu }
-    ensures { RegisterSteps w regs.old cpu regs.new result }
+pub fn do_or(w: u32, regs: &mut Registers, cpu: Cpu) -> Cpu
+    requires opcode { opcode w ≡ OR }
+    requires inside { cpu.place < 1024 }
+    ensures { RegisterSteps w regs.old.words cpu regs.new.words result }
 {
-    let v = in_r2(regs, w) ^ in_r3(regs, w);
-    put_result(w, regs, cpu, v)
+    operate(w, regs, cpu, |a, b| a | b)
 }
 
-pub fn do_not(w: u32, regs: &mut [u32; 32], cpu: Cpu) -> Cpu
-    requires { (opcode w ≡ NOT) × Going regs.old cpu }
-    ensures { RegisterSteps w regs.old cpu regs.new result }
+pub fn do_xor(w: u32, regs: &mut Registers, cpu: Cpu) -> Cpu
+    requires opcode { opcode w ≡ XOR }
+    requires inside { cpu.place < 1024 }
+    ensures { RegisterSteps w regs.old.words cpu regs.new.words result }
 {
-    let v = !in_r2(regs, w);
-    put_result(w, regs, cpu, v)
+    operate(w, regs, cpu, |a, b| a ^ b)
 }
 
-pub fn do_lsl(w: u32, regs: &mut [u32; 32], cpu: Cpu) -> Cpu
-    requires { (opcode w ≡ LSL) × Going regs.old cpu }
-    ensures { RegisterSteps w regs.old cpu regs.new result }
+pub fn do_not(w: u32, regs: &mut Registers, cpu: Cpu) -> Cpu
+    requires opcode { opcode w ≡ NOT }
+    requires inside { cpu.place < 1024 }
+    ensures { RegisterSteps w regs.old.words cpu regs.new.words result }
 {
-    let v = shifted_left(in_r2(regs, w), in_r3(regs, w));
-    put_result(w, regs, cpu, v)
+    operate(w, regs, cpu, |a, _| !a)
 }
 
-pub fn do_lsr(w: u32, regs: &mut [u32; 32], cpu: Cpu) -> Cpu
-    requires { (opcode w ≡ LSR) × Going regs.old cpu }
-    ensures { RegisterSteps w regs.old cpu regs.new result }
+pub fn do_lsl(w: u32, regs: &mut Registers, cpu: Cpu) -> Cpu
+    requires opcode { opcode w ≡ LSL }
+    requires inside { cpu.place < 1024 }
+    ensures { RegisterSteps w regs.old.words cpu regs.new.words result }
 {
-    let v = shifted_right(in_r2(regs, w), in_r3(regs, w));
-    put_result(w, regs, cpu, v)
+    operate(w, regs, cpu, shifted_left)
 }
 
-pub fn do_asr(w: u32, regs: &mut [u32; 32], cpu: Cpu) -> Cpu
-    requires { (opcode w ≡ ASR) × Going regs.old cpu }
-    ensures { RegisterSteps w regs.old cpu regs.new result }
+pub fn do_lsr(w: u32, regs: &mut Registers, cpu: Cpu) -> Cpu
+    requires opcode { opcode w ≡ LSR }
+    requires inside { cpu.place < 1024 }
+    ensures { RegisterSteps w regs.old.words cpu regs.new.words result }
 {
-    let v = shifted_signed(in_r2(regs, w), in_r3(regs, w));
-    put_result(w, regs, cpu, v)
+    operate(w, regs, cpu, shifted_right)
 }
 
-pub fn do_lsli(w: u32, regs: &mut [u32; 32], cpu: Cpu) -> Cpu
-    requires { (opcode w ≡ LSLI) × Going regs.old cpu }
-    ensures { RegisterSteps w regs.old cpu regs.new result }
+pub fn do_asr(w: u32, regs: &mut Registers, cpu: Cpu) -> Cpu
+    requires opcode { opcode w ≡ ASR }
+    requires inside { cpu.place < 1024 }
+    ensures { RegisterSteps w regs.old.words cpu regs.new.words result }
 {
-    let v = shifted_left(in_r2(regs, w), imm(w));
-    put_result(w, regs, cpu, v)
+    operate(w, regs, cpu, shifted_signed)
 }
 
-pub fn do_lsri(w: u32, regs: &mut [u32; 32], cpu: Cpu) -> Cpu
-    requires { (opcode w ≡ LSRI) × Going regs.old cpu }
-    ensures { RegisterSteps w regs.old cpu regs.new result }
+pub fn do_lsli(w: u32, regs: &mut Registers, cpu: Cpu) -> Cpu
+    requires opcode { opcode w ≡ LSLI }
+    requires inside { cpu.place < 1024 }
+    ensures { RegisterSteps w regs.old.words cpu regs.new.words result }
 {
-    let v = shifted_right(in_r2(regs, w), imm(w));
-    put_result(w, regs, cpu, v)
+    operate(w, regs, cpu, |a, _| shifted_left(a, imm(w)))
 }
 
-pub fn do_asri(w: u32, regs: &mut [u32; 32], cpu: Cpu) -> Cpu
-    requires { (opcode w ≡ ASRI) × Going regs.old cpu }
-    ensures { RegisterSteps w regs.old cpu regs.new result }
+pub fn do_lsri(w: u32, regs: &mut Registers, cpu: Cpu) -> Cpu
+    requires opcode { opcode w ≡ LSRI }
+    requires inside { cpu.place < 1024 }
+    ensures { RegisterSteps w regs.old.words cpu regs.new.words result }
 {
-    let v = shifted_signed(in_r2(regs, w), imm(w));
-    put_result(w, regs, cpu, v)
+    operate(w, regs, cpu, |a, _| shifted_right(a, imm(w)))
+}
+
+pub fn do_asri(w: u32, regs: &mut Registers, cpu: Cpu) -> Cpu
+    requires opcode { opcode w ≡ ASRI }
+    requires inside { cpu.place < 1024 }
+    ensures { RegisterSteps w regs.old.words cpu regs.new.words result }
+{
+    operate(w, regs, cpu, |a, _| shifted_signed(a, imm(w)))
 }
