@@ -1,8 +1,11 @@
--- A leaf's value, added up: it starts as r1, and a step to the next leaf adds r2.
+-- A leaf's value, added up: it starts as r1, and a step to the next leaf adds r2. And a tree with other marks, or other colours.
 use Prim.Native.Nat.{ℕ, ◌+◌, ◌*◌, ◌%◌, ◌<◌}
 use mathlib.Core.Path.{◌≡◌}
 use native.Mathlib.Nat.{add-mul}
 use native.Mathlib.Omega.{arith}
+use mathlib.Core.Bool.{Bool}
+use mathlib.Core.List.{List}
+use Rattle.instructions.specs.declared.Tree.{Tree}
 use Rattle.instructions.specs.Tree.{leaf_value}
 
 pub value-first : (a b : ℕ) → a < 4294967296 → a ≡ leaf_value a b 0
@@ -18,3 +21,25 @@ value-next a b k e q =
 pub value-small : (a b k : ℕ) → leaf_value a b k < 4294967296
 unfolding leaf_value
 value-small a b k = omega arith
+
+abbrev pub with_marks : List Bool → List Bool → Tree → Tree
+with_marks inside outside t = record {
+  column = t.column;
+  row = t.row;
+  inside = inside;
+  outside = outside;
+  colour = t.colour;
+  depth = t.depth;
+  held = t.held;
+}
+
+abbrev pub with_colours : List ℕ → Tree → Tree
+with_colours colour t = record {
+  column = t.column;
+  row = t.row;
+  inside = t.inside;
+  outside = t.outside;
+  colour = colour;
+  depth = t.depth;
+  held = t.held;
+}

@@ -1,44 +1,40 @@
--- `tree_in` gives TREEIN's tree: the loop fills the marks leaf by leaf from what they were, and its value goes from leaf to leaf.
-use mathlib.Core.Path.{◌≡◌, ◌∙◌, ap, ap₂}
-use mathlib.Core.Bool.{false, ◌&&◌, ◌||◌, not}
-use native.Mathlib.Omega.{arith}
-use borrow.Author.Rules.{rules}
+-- `tree_in` leaves TREEIN's tree: the loop fills the marks leaf by leaf from what they were, its value goes from leaf to leaf, and all else
+-- of the tree stays.
+use Rattle.std.proofs.Common.{rules, arith, refl, sym, ◌∙◌, ap, ap₂, false, ◌&&◌, ◌||◌, not}
 use Rattle.rules.specs.Triangles.{positive, negative}
 use Rattle.instructions.specs.Words.{signed}
 use Rattle.instructions.specs.Tree.{marked, tree_in}
 use Rattle.instructions.proofs.Filled.{filled_none, filled_kept, filled_more, filled_all}
-use Rattle.leaves.proofs.Values.{value-first, value-next}
+use Rattle.leaves.proofs.Values.{value-first, value-next, with_marks}
 use Rattle.leaves.proofs.tree_in.Goals as goal
 
 pub loop-k-init : goal.loop-k-init
-loop-k-init c = (omega arith, value-first _ _ (omega arith), filled_none (search rules), filled_none (search rules))
+loop-k-init c = record {
+  value = value-first _ _ (omega arith);
+  inside = filled_none (search rules);
+  outside = filled_none (search rules);
+  rest = refl;
+}
 
 pub loop-k-preserved : goal.loop-k-preserved
 loop-k-preserved c =
-    let a = c.args in
     let l = c.loop-k in
+    let i = l.invariant in
     let h = c.loop-k-test.true in
-    let up = l.invariant.1 in
-    let cleared = c.positive.ensures ∙ ap (λ v. positive (signed v)) up in
-    let marked = c.negative.ensures ∙ ap (λ v. negative (signed v)) up in (
-      omega arith,
-      value-next a.a a.b l.k up c.sum32-next.ensures,
-      filled_more l.invariant.2 h (ap₂ (λ m p. m && not p) (filled_kept l.invariant.2 false h) cleared),
-      filled_more l.invariant.3 h (ap₂ (λ m p. m || p) (filled_kept l.invariant.3 false h) marked),
-    )
+    let cleared = c.positive.ensures ∙ ap (λ v. positive (signed v)) i.value in
+    let set = c.negative.ensures ∙ ap (λ v. negative (signed v)) i.value in
+    record {
+      value = value-next c.args.a c.args.b l.k i.value refl;
+      inside = filled_more i.inside h (ap₂ (λ m p. m && not p) (filled_kept i.inside false h) cleared);
+      outside = filled_more i.outside h (ap₂ (λ m p. m || p) (filled_kept i.outside false h) set);
+      rest = ap (with_marks _ _) i.rest;
+    }
 
 pub returns : goal.returns
 unfolding marked tree_in
 returns c =
-    let t = c.args.tree in
-    let l = c.loop-k in
-    let e : l.k ≡ 16 = omega arith in
-    λ i. record {
-      column = t.column;
-      row = t.row;
-      inside = filled_all l.invariant.2 e i;
-      outside = filled_all l.invariant.3 e i;
-      colour = t.colour;
-      depth = t.depth;
-      held = t.held;
-    }
+    let i = c.loop-k.invariant in
+    sym i.rest
+    ∙ ap₂ (λ inside outside. with_marks inside outside c.args.tree.now)
+    (filled_all i.inside (omega arith))
+    (filled_all i.outside (omega arith))

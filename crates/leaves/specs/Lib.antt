@@ -1,0 +1,2 @@
+-- The channels of a colour.
+pub mod Channels
