@@ -7,11 +7,8 @@ use Rattle.tree.proofs.load_halves.Goals as goal
 pub loop-k-init : goal.loop-k-init
 loop-k-init c = (omega arith, filled_none refl)
 
-pub overflow_cast-found : goal.overflow_cast-found
-overflow_cast-found c = omega (arith, c.load_half.ensures.small)
-
 pub loop-k-preserved : goal.loop-k-preserved
-loop-k-preserved c = (omega arith, filled_more c.loop-k.invariant.1 c.loop-k-test.true c.load_half.ensures.value)
+loop-k-preserved c = (omega arith, filled_more c.loop-k.invariant.1 c.loop-k-test.true c.load_half.ensures)
 
 pub returns : goal.returns
 returns c = filled_all c.loop-k.invariant.1 (omega arith)

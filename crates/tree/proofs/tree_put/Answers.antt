@@ -29,16 +29,17 @@ overflow_add-depth c =
 
 pub store_leaf-requires : goal.store_leaf-requires
 store_leaf-requires c =
-    let h = c.loop-k-test.true in (
-      omega (arith, colour-from c.requires c.colour_at-colour.ensures h, colour_leaf_fits c.requires h),
-      omega (arith, depth-from c.requires c.depth_at-depth.ensures h, depth_leaf_fits c.requires h),
-    )
+    let h = c.loop-k-test.true in
+    record {
+      colour_fits = omega (arith, colour-from c.requires c.colour_at-colour.ensures h, colour_leaf_fits c.requires h);
+      depth_fits = omega (arith, depth-from c.requires c.depth_at-depth.ensures h, depth_leaf_fits c.requires h);
+    }
 
 -- one more leaf, put or not
 pub loop-k-preserved : goal.loop-k-preserved
 loop-k-preserved c =
     let l = c.loop-k in
-    let t = c.args.tree in
+    let t = c.args.tree.now in
     let colour = c.colour_at-colour.result in
     let depth = c.depth_at-depth.result in
     let one : c.if-tree-k.ram ≡ leaf_at t (colour + 2 * l.k) (depth + 2 * l.k) l.k l.ram =
@@ -55,7 +56,7 @@ unfolding leaf_put put_pixel stored tree_put
 returns c =
     let l = c.loop-k in
     let a = c.args in
-    let t = a.tree in
+    let t = a.tree.now in
     let e : l.k ≡ 16 = omega arith in
     (rw e at l.invariant)
     ∙ upto_same _ (leaf_put a.s t) 16 a.ram.now
