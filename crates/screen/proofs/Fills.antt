@@ -1,6 +1,6 @@
 -- Filling both areas, one after the other, is clearing pixel by pixel. Rows of columns are one fold; and a depth's half-word
 -- is apart from every colour's, so the passes of the two fills can be taken in pairs.
-use Prim.Native.Nat.{ℕ, ◌+◌, ◌*◌, ◌-◌, ◌/◌, ◌%◌, ◌≤◌, ◌<◌}
+use Prim.Native.Nat.{ℕ, ◌+◌, ◌*◌, ◌≤◌, ◌<◌}
 use mathlib.Core.Path.{◌≡◌, refl, sym, ◌∙◌, ap}
 use mathlib.Core.Logic.{◌⊎◌, inl, inr}
 use mathlib.Core.Bool.{true}
@@ -8,51 +8,26 @@ use mathlib.Core.List.{List}
 use native.Mathlib.Omega.{arith}
 use native.Mathlib.Nat.{mul_comm}
 use lib.ListN.{length}
-use borrow.Author.Tests.{eq-eqb, ne_eqb}
 use Rattle.rules.specs.declared.Screen.{Screen}
 use Rattle.rules.specs.Folds.{upto}
 use Rattle.ram.specs.Ram.{store_half}
 use Rattle.rules.specs.Sizes.{width, height, area, sound, pixel, put_pixel}
 use Rattle.rules.specs.Numbers.{screen_number}
 use Rattle.rules.specs.Calls.{cleared, Clears}
-use Rattle.rules.proofs.Refusals.{screen_number_passed}
-use Rattle.rules.proofs.Folds.{upto_more, upto-keeps}
-use Rattle.ram.proofs.Halves.{Apart, length-store_half, store_half-comm}
-use Rattle.rules.proofs.Strips.{Sound, colour_in_area, depth_in_area}
+use Rattle.rules.proofs.Choices.{accepted_no, accepted_yes}
+use Rattle.rules.proofs.Folds.{upto_more}
+use Rattle.ram.proofs.Halves.{Apart, store_half-comm}
+use Rattle.rules.proofs.Strips.{Sound, sound_facts, colour_in_area, depth_in_area}
 use Rattle.screen.specs.Fills.{filled}
 use Rattle.screen.proofs.Pairs.{upto_pairs, upto_rows}
-use Rattle.screen.proofs.Tests.{chosen, other}
 
--- an area filled up to the half-word at `a`
-abbrev pub filled_to : ℕ → ℕ → ℕ → List ℕ → List ℕ
-filled_to start v a m = filled start v ((a - start) / 2) m
-
-pub filled_none : (start v : ℕ) (m : List ℕ) → m ≡ filled_to start v start m
+pub filled_none : (start v : ℕ) (m : List ℕ) → m ≡ filled start v 0 m
 unfolding filled upto
-filled_none start v m =
-    let e : (start - start) / 2 ≡ 0 = omega arith in
-    rw e
+filled_none start v m = refl
 
-pub filled_more : (start v a : ℕ) (m : List ℕ) → start ≤ a → (a - start) % 2 ≡ 0
-    → store_half (filled_to start v a m) a v ≡ filled_to start v (a + 2) m
+pub filled_more : (start v i : ℕ) (m : List ℕ) → store_half (filled start v i m) (start + i * 2) v ≡ filled start v (i + 1) m
 unfolding filled
-filled_more start v a m l e =
-    let i : ℕ = (a - start) / 2 in
-    let at : start + i * 2 ≡ a = omega arith in
-    let next : (a + 2 - start) / 2 ≡ i + 1 = omega arith in
-    ap (λ b. store_half (upto step i m) b v) (sym at)
-    ∙ sym (upto_more step i m)
-    ∙ ap (λ k. upto step k m) (sym next)
-  where
-    step : ℕ → List ℕ → List ℕ
-    step j b = store_half b (start + j * 2) v
-
-pub length-filled : (start v count : ℕ) (m : List ℕ) → length (filled start v count m) ≡ length m
-unfolding filled
-length-filled start v count m =
-    upto-keeps (λ j b. store_half b (start + j * 2) v) (λ b. length b ≡ length m) count m
-    (λ j b l e. length-store_half b (start + j * 2) v ∙ e)
-    refl
+filled_more start v i m = sym (upto_more (λ j b. store_half b (start + j * 2) v) i m)
 
 abbrev pixel_count : Screen → ℕ
 pixel_count s = width s.size * height s.size
@@ -66,7 +41,7 @@ module _ {n : ℕ} {s : Screen} (k : Sound n s) (c d : ℕ) where
       go (inl h) = inl (omega arith)
       go (inr h) = inr (omega arith)
 
-  pub two-fills : (m : List ℕ) → filled s.depth d (pixel_count s) (filled s.colour c (pixel_count s) m) ≡ cleared s c d m
+  two-fills : (m : List ℕ) → filled s.depth d (pixel_count s) (filled s.colour c (pixel_count s) m) ≡ cleared s c d m
   unfolding filled cleared put_pixel
   two-fills m =
       upto_pairs
@@ -83,18 +58,16 @@ module _ {n : ℕ} {s : Screen} (k : Sound n s) (c d : ℕ) where
       both : ℕ → List ℕ → List ℕ
       both i b = store_half (store_half b (s.colour + i * 2) c) (s.depth + i * 2) d
 
-  pub areas_filled : (m : List ℕ) {m₁ m₂ : List ℕ} {count : ℕ} → count ≡ pixel_count s
-      → m₁ ≡ filled s.colour c count m → m₂ ≡ filled s.depth d count m₁ → m₂ ≡ cleared s c d m
-  areas_filled m e p q = rw (q, p, e) (two-fills m)
-
-pub is_accepted : (n : ℕ) (s : Screen) → 0 ≡ screen_number n s → sound n s ≡ true
-is_accepted n s e = (screen_number_passed (sym e)).is_sound
+-- one area filled, and then the other
+pub areas_filled : (s : Screen) (c d : ℕ) (m : List ℕ) {count : ℕ} {m₁ m₂ : List ℕ} → sound (length m) s ≡ true → count ≡ pixel_count s
+    → m₁ ≡ filled s.colour c count m → m₂ ≡ filled s.depth d count m₁ → cleared s c d m ≡ m₂
+areas_filled s c d m h e p q = sym (rw (q, p, e) (two-fills (sound_facts h) c d m))
 
 module _ (m : List ℕ) (s : Screen) (c d : ℕ) (r : ℕ) (answers : r ≡ screen_number (length m) s) where
   pub refused : ¬ (r ≡ 0) → Clears m s (pixel c d) r m
-  refused z = record { answers = answers; leaves = other _ (cleared s c d m) m (ne_eqb _ _ (λ p. z (answers ∙ p))) }
+  refused z = record { answers = answers; leaves = sym (accepted_no _ (cleared s c d m) m (λ p. z (answers ∙ p))) }
 
   pub done : r ≡ 0 → (after : List ℕ) → after ≡ cleared s c d m → Clears m s (pixel c d) 0 after
   done z after e =
       let zero : screen_number (length m) s ≡ 0 = sym answers ∙ z in
-      record { answers = sym zero; leaves = e ∙ chosen _ (cleared s c d m) m (eq-eqb _ _ zero) }
+      record { answers = sym zero; leaves = e ∙ sym (accepted_yes _ (cleared s c d m) m zero) }

@@ -1,4 +1,3 @@
 pub mod Bounds
 pub mod Fills
 pub mod Pairs
-pub mod Tests

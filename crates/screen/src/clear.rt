@@ -5,25 +5,22 @@ ghost use Rattle.rules.specs.Calls.{Clears, cleared};
 ghost use Rattle.screen.specs.Fills.{filled};
 
 use crate::sizes::{pixel_count, screen_check};
+use ram::store_half;
 use rules::{Refusal, Screen};
 
 // One stretch of bytes, so that the stores become wide ones.
+#[tactic(auto, using(crate::proofs::Fills::filled_none, crate::proofs::Fills::filled_more))]
 fn fill(ram: &mut [u8], start: usize, count: usize, v: u16)
     requires { start + count * 2 ≤ length ram.old }
     ensures { ram.new ≡ filled start v count ram.old }
 {
-    let high = (v / 256) as u8;
-    let low = (v % 256) as u8;
-    let end = start + count * 2;
-    let mut a = start;
-    while a + 1 < end {
-        ram[a] = high;
-        ram[a + 1] = low;
-        a += 2;
+    for i in 0..count {
+        store_half(ram, start + i * 2, v);
     }
 }
 
 // Two areas, one after the other.
+#[tactic(auto, using(rules::proofs::Strips::sound_facts, crate::proofs::Fills::areas_filled))]
 fn fill_areas(ram: &mut [u8], s: Screen, colour: u16, depth: u16)
     requires { sound (length ram.old) s ≡ true }
     ensures { ram.new ≡ cleared s colour depth ram.old }
@@ -33,7 +30,7 @@ fn fill_areas(ram: &mut [u8], s: Screen, colour: u16, depth: u16)
     fill(ram, s.depth as usize, count, depth);
 }
 
-#[tactic(auto, using(crate::proofs::Fills::is_accepted, crate::proofs::Fills::refused, crate::proofs::Fills::done))]
+#[tactic(auto, using(rules::proofs::Refusals::screen_number_passed, crate::proofs::Fills::refused, crate::proofs::Fills::done))]
 pub fn clear(ram: &mut [u8], s: Screen, colour: u16, depth: u16) -> Result<(), Refusal>
     ensures { Clears ram.old s (pixel colour depth) (number_of result) ram.new }
 {

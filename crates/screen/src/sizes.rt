@@ -1,8 +1,8 @@
-ghost use Rattle.std.specs.Prelude.{◌*◌, ◌^◌, ◌<◌, ◌&&◌, ◌≡◌};
+ghost use Rattle.std.specs.Prelude.{◌*◌, ◌^◌, ◌<◌, ◌≡◌};
 ghost use Rattle.rules.specs.Answers.{number_of};
 ghost use Rattle.rules.specs.Numbers.{screen_number, too_long};
 ghost use Rattle.rules.specs.Sizes.{area, colour_at, depth_at, height, size_in_range, sound, sound_areas, width};
-ghost use Rattle.screen.specs.Areas.{areas_apart, areas_fit, between, even_starts, stands_at};
+ghost use Rattle.screen.specs.Areas.{stands_at};
 
 use rules::{Refusal, Screen};
 
@@ -25,62 +25,40 @@ pub fn pixel_count(size: u32) -> usize
     width(size) as usize * height(size) as usize
 }
 
+#[tactic(auto, using(crate::proofs::Bounds::area_small))]
 fn area(size: u32) -> u64
-    ensures { result ≡ area size }
+    ensures is_area { result ≡ area size }
+    ensures small { result < 2 ^ 37 }
 {
     pixel_count(size) as u64 * 2
-}
-
-fn between(low: u32, n: u32, high: u32) -> bool
-    ensures { result ≡ between low n high }
-{
-    low <= n && n <= high
 }
 
 fn size_in_range(size: u32) -> bool
     ensures { result ≡ size_in_range size }
 {
-    between(1, size / 512, 40) && between(1, size % 512, 480)
-}
-
-fn even_starts(s: Screen) -> bool
-    ensures { result ≡ even_starts s }
-{
-    s.colour % 2 == 0 && s.depth % 2 == 0
+    (1..=40).contains(&(size / 512)) && (1..=480).contains(&(size % 512))
 }
 
 // In 64 bits, so that a start near 2^32 plus an area does not wrap.
-fn areas_fit(len: usize, s: Screen, bytes: u64) -> bool
-    requires { bytes < 2 ^ 37 }
-    ensures { result ≡ areas_fit len s bytes }
-{
-    s.colour as u64 + bytes <= len as u64 && s.depth as u64 + bytes <= len as u64
-}
-
-fn areas_apart(s: Screen, bytes: u64) -> bool
-    requires { bytes < 2 ^ 37 }
-    ensures { result ≡ areas_apart s bytes }
-{
-    s.colour as u64 + bytes <= s.depth as u64 || s.depth as u64 + bytes <= s.colour as u64
-}
-
+#[tactic(auto, unfolding(rules::specs::Sizes::sound_areas))]
 fn sound_areas(len: usize, s: Screen) -> bool
     ensures { result ≡ sound_areas len s }
 {
-    if !even_starts(s) {
-        return false;
-    }
     let bytes = area(s.size);
-    areas_fit(len, s, bytes) && areas_apart(s, bytes)
+    let colour_end = s.colour as u64 + bytes;
+    let depth_end = s.depth as u64 + bytes;
+    s.colour % 2 == 0
+        && s.depth % 2 == 0
+        && colour_end <= len as u64
+        && depth_end <= len as u64
+        && (colour_end <= s.depth as u64 || depth_end <= s.colour as u64)
 }
 
+#[tactic(auto, unfolding(rules::specs::Sizes::sound))]
 pub fn sound(len: usize, s: Screen) -> bool
     ensures { result ≡ sound len s }
 {
-    if !size_in_range(s.size) {
-        return false;
-    }
-    sound_areas(len, s)
+    size_in_range(s.size) && sound_areas(len, s)
 }
 
 pub fn too_long(len: usize) -> bool
@@ -110,12 +88,14 @@ fn stands_at(start: u32, size: u32, x: u32, y: u32) -> usize
     start as usize + (y as usize * width(size) as usize + x as usize) * 2
 }
 
+#[tactic(auto, unfolding(rules::specs::Sizes::colour_at))]
 pub fn colour_at(s: Screen, x: u32, y: u32) -> usize
     ensures { result ≡ colour_at s x y }
 {
     stands_at(s.colour, s.size, x, y)
 }
 
+#[tactic(auto, unfolding(rules::specs::Sizes::depth_at))]
 pub fn depth_at(s: Screen, x: u32, y: u32) -> usize
     ensures { result ≡ depth_at s x y }
 {

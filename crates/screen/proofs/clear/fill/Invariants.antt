@@ -1,12 +1,7 @@
--- `clear::fill` leaves `filled`. The loop's invariant: `a` is a number of half-words past the start, and those are stored. The
--- measure is what is left before the end.
-use Prim.Native.Nat.{◌-◌, ◌%◌, ◌≤◌}
+-- `clear::fill` leaves `filled`: at i the first i half-words are stored.
 use mathlib.Core.Path.{◌≡◌}
-use Rattle.screen.proofs.Fills.{filled_to}
+use Rattle.screen.specs.Fills.{filled}
 use Rattle.screen.proofs.clear.fill.Given as goal
 
-abbrev pub invariant-loop-a : goal.invariant-loop-a
-invariant-loop-a l = (l.start ≤ l.a) × (l.a ≤ l.end) × ((l.a - l.start) % 2 ≡ 0) × (l.ram ≡ filled_to l.start l.v l.a l.initial.ram)
-
-abbrev pub decreases-loop-a : goal.decreases-loop-a
-decreases-loop-a l = l.end - l.a
+abbrev pub invariant-loop-i : goal.invariant-loop-i
+invariant-loop-i l = l.ram ≡ filled l.start l.v l.i l.initial.ram
