@@ -1,18 +1,18 @@
 -- Vertex numbers are within 8,192 and values within 32,767, so the doubled area, the numerators and what is divided are well inside 64
 -- bits; and what a callee reads from the machine's words is what was given. By bounds that add and multiply.
-use Prim.Native.Nat.{ℕ, ◌^◌, ◌≤◌}
+use Prim.Native.Nat.{ℕ, ◌^◌, ◌≤◌, ◌<◌}
 use mathlib.Core.Path.{◌≡◌, sym, ◌∙◌, subst}
 use mathlib.Core.Bool.{true, ◌&&◌}
 use native.Mathlib.Omega.{arith}
 use lib.IntN.{ℤ, pos, nat_abs, ◌*ℤ◌}
-use lib.Signed.{le_z, ◌<ℤ◌}
+use lib.Signed.{le_z, mag}
 use lib.Dec.{T, ltb}
 use mir.Syntax.{w32, w64}
 use mir.Val.{hbits, to_z, of_z}
 use mir.ValLaws.{to_z-of_z}
 use Rattle.ints.proofs.Order.{le_z_true}
 use Rattle.ints.proofs.Bounds.{fits_32, Within, within_range, within_lit, within_le, within_sub, within_add, within_mul, within_shr}
-use Rattle.ints.proofs.Machine.{Got, got_in}
+use Rattle.ints.proofs.Machine.{Got, got_in, got_lit, Code, known, ◌⊠◌, reads_as}
 use Rattle.rules.specs.declared.Vertices.{Vertices}
 use Rattle.rules.specs.Triangles.{sample, doubled_area}
 use Rattle.rules.specs.Numbers.{vertices_in_range}
@@ -20,9 +20,10 @@ use Rattle.rules.proofs.Choices.{and_true}
 use Rattle.edges.proofs.Within.{six, vertex_within}
 use Rattle.interpolation.specs.declared.Values.{Values}
 use Rattle.interpolation.specs.Interpolation.{value_in_range, values_in_range, numerator_a, numerator_b, numerator}
-use Rattle.interpolation.specs.Interpolation.{in_units, raise, rounded_down, through_a, through_b, through_c}
+use Rattle.interpolation.specs.Interpolation.{in_units, rounded_down}
 use Rattle.interpolation.proofs.Cramer.{a-by-differences, b-by-differences, by_differences}
-use Rattle.through.specs.Through.{InRange, Solvable, Small, determinant, CanDivide, CanDivideByArea}
+use Rattle.through.specs.declared.Solvable.{Solvable}
+use Rattle.through.specs.Through.{InRange, Small, determinant}
 
 pub record VerticesWithin (v : Vertices) : Type 0 where
   pub x1 : Within 8192 v.x1
@@ -68,6 +69,9 @@ pub record AllWithin (v : Vertices) (r : Values) : Type 0 where
 pub all_within : (v : Vertices) (r : Values) → InRange v r → AllWithin v r
 all_within v r h = record { vertices = vertices_within v h.vertices; values = values_within r h.values }
 
+pub within : (s : Solvable) → AllWithin s.vertices s.values
+within s = all_within s.vertices s.values s.in_range
+
 -- what is worked out of them
 
 pub area_within : (v : Vertices) → VerticesWithin v → Within 536870912 (doubled_area v)
@@ -77,12 +81,18 @@ area_within v w =
     (within_mul (within_sub w.x2 w.x1) (within_sub w.y3 w.y1))
     (within_mul (within_sub w.x3 w.x1) (within_sub w.y2 w.y1))
 
-module _ (v : Vertices) (r : Values) (h : AllWithin v r) where
+module _ (s : Solvable) where
+  abbrev v : Vertices
+  v = s.vertices
+
+  abbrev r : Values
+  r = s.values
+
   abbrev w : VerticesWithin v
-  w = h.vertices
+  w = (within s).vertices
 
   abbrev u : ValuesWithin r
-  u = h.values
+  u = (within s).values
 
   pub a_within : Within 2147418112 (numerator_a v r)
   a_within =
@@ -113,6 +123,10 @@ module _ {b : ℕ} {z y : ℤ} (e : z ≡ y) (h : Within b y) where
 
   pub answered : T (ltb b (2 ^ hbits w64)) → to_z w64 (of_z w64 z) ≡ y
   answered t = (got_answer t).reads
+
+-- a result of 64 bits, read back from the machine's word
+pub reads_back : {z : ℤ} → mag z < 9223372036854775808 → to_z w64 (of_z w64 z) ≡ z
+reads_back {z} f = to_z-of_z w64 z (record { sfits = f })
 
 -- three numbers as a callee reads them from the machine's words
 
@@ -152,11 +166,8 @@ rounded_within : {b : ℕ} {n : ℤ} (d : ℤ) → Within b n → Within b (roun
 unfolding rounded_down
 rounded_within d h = within_shr (nat_abs d) h
 
-pub can_divide : {n d x y : ℤ} → x ≡ n → y ≡ d → Within 4611686018427387904 n → pos 0 <ℤ d → CanDivide x y
-can_divide {n} {d} p q h l = record {
-  small = subst (λ (z : ℤ). nat_abs z ≤ 4611686018427387904) (sym p) h.within;
-  positive = subst (λ (z : ℤ). pos 0 <ℤ z) (sym q) l;
-}
+pub area_is_within : (s : Solvable) → Within 536870912 s.area
+area_is_within s = subst (Within 536870912) (sym s.is_area) (area_within s.vertices (within s).vertices)
 
 -- in units
 
@@ -165,27 +176,16 @@ pub units_within : {n : ℤ} (v : Vertices)
     → Within 3459784826251378688 (rounded_down (in_units n) (doubled_area v))
 units_within v h = rounded_within (doubled_area v) (within_mul (within_lit {n = 65536} {z = pos 65536} tt) h)
 
-pub can_divide_by_area : {n z : ℤ} {v : Vertices} {r : Values} → Solvable v r → z ≡ n → Within 52792126865408 n → CanDivideByArea z v
-can_divide_by_area h e w = record {
-  small = subst (λ (y : ℤ). nat_abs y ≤ 52792126865408) (sym e) w.within;
-  vertices = h.in_range.vertices;
-  area = h.area;
-}
+-- eight times a numerator of A or B, as it is answered
 
-pub in_eights : {n : ℤ} → Within 2147418112 n → Within 52792126865408 (pos 8 *ℤ n)
+abbrev pub eight_c : {z y : ℤ} → z ≡ y → Within 2147418112 y → Code w64
+eight_c e h = known (got_lit w64 8 tt) ⊠ known (got_answer e h tt)
+
+in_eights : {n : ℤ} → Within 2147418112 n → Within 52792126865408 (pos 8 *ℤ n)
 in_eights h = within_le (omega arith) (within_mul (within_lit {n = 8} {z = pos 8} tt) h)
 
--- the three numbers, before it is known whether they fit 32 bits
+pub eight_small : {z y : ℤ} → z ≡ y → Within 2147418112 y → nat_abs (to_z w64 (of_z w64 (pos 8 *ℤ to_z w64 (of_z w64 z)))) ≤ 52792126865408
+eight_small e h = subst (λ (x : ℤ). nat_abs x ≤ 52792126865408) (sym (reads_as (eight_c e h) tt)) (in_eights h).within
 
-module _ (v : Vertices) (r : Values) (h : AllWithin v r) where
-  pub c-small : Within 3459784826251379807 (through_c v r)
-  unfolding through_c
-  c-small = within_add (units_within v (numerator_within v r h)) (within_lit {n = 1119} {z = raise} tt)
-
-  pub a_small : Within 3459784826251378688 (through_a v r)
-  unfolding through_a
-  a_small = units_within v (in_eights (a_within v r h))
-
-  pub b-small : Within 3459784826251378688 (through_b v r)
-  unfolding through_b
-  b-small = units_within v (in_eights (b_within v r h))
+pub answer_small : {z y : ℤ} → z ≡ y → Within 52792126865408 y → nat_abs (to_z w64 (of_z w64 z)) ≤ 52792126865408
+answer_small e h = subst (λ (x : ℤ). nat_abs x ≤ 52792126865408) (sym (answered e h tt)) h.within

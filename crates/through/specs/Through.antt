@@ -1,20 +1,13 @@
 -- What is in range where the plane is worked out, what can be divided in 64 bits, and a refusal.
-use Rattle.std.specs.Prelude.{ℕ, ◌≤◌, ◌≡◌, true, ℤ, pos, nat_abs, ◌-ℤ◌, ◌*ℤ◌, ◌<ℤ◌}
+use Rattle.std.specs.Prelude.{◌≤◌, ◌≡◌, true, ℤ, pos, nat_abs, ◌-ℤ◌, ◌*ℤ◌, ◌<ℤ◌}
 use Rattle.rules.specs.declared.Vertices.{Vertices}
-use Rattle.rules.specs.Triangles.{doubled_area}
 use Rattle.rules.specs.Numbers.{vertices_in_range}
 use Rattle.interpolation.specs.declared.Values.{Values}
-use Rattle.interpolation.specs.declared.Through.{Through}
-use Rattle.interpolation.specs.Interpolation.{values_in_range, zeros}
+use Rattle.interpolation.specs.Interpolation.{values_in_range}
 
 pub record InRange (v : Vertices) (r : Values) : Type 0 where
   pub vertices : vertices_in_range v ≡ true
   pub values : values_in_range r ≡ true
-
--- and the area is positive
-pub record Solvable (v : Vertices) (r : Values) : Type 0 where
-  pub in_range : InRange v r
-  pub area : pos 0 <ℤ doubled_area v
 
 -- three numbers no larger than values in range
 pub record Small (a b c : ℤ) : Type 0 where
@@ -30,13 +23,3 @@ determinant p1 p2 p3 q1 q2 q3 = (p2 -ℤ p1) *ℤ (q3 -ℤ q1) -ℤ (p3 -ℤ p1)
 pub record CanDivide (n d : ℤ) : Type 0 where
   pub small : nat_abs n ≤ 4611686018427387904
   pub positive : pos 0 <ℤ d
-
--- a numerator no larger than the one at pixel (0, 0) can be (`numerator_within`), over a positive doubled area
-pub record CanDivideByArea (n : ℤ) (v : Vertices) : Type 0 where
-  pub small : nat_abs n ≤ 52792126865408
-  pub vertices : vertices_in_range v ≡ true
-  pub area : pos 0 <ℤ doubled_area v
-
-pub record Refuses (number : ℕ) (answer : Through) : Type 0 where
-  pub answers : answer.number ≡ number
-  pub gives : answer.plane ≡ zeros

@@ -4,10 +4,15 @@ use Rattle.rules.specs.Triangles.{doubled_area}
 use Rattle.through.proofs.Ranges.{vertices_within, area_within, answered, small, determinant-answer}
 use Rattle.through.proofs.doubled_area.Goals as goal
 
-pub determinant-requires : goal.determinant-requires
-determinant-requires c =
+pub determinant-requires-clause-p : goal.determinant-requires-clause-p
+determinant-requires-clause-p c =
     let w = vertices_within c.args.v c.requires in
-    (small w.x1 w.x2 w.x3 (omega arith), small w.y1 w.y2 w.y3 (omega arith))
+    small w.x1 w.x2 w.x3 (omega arith)
+
+pub determinant-requires-clause-q : goal.determinant-requires-clause-q
+determinant-requires-clause-q c =
+    let w = vertices_within c.args.v c.requires in
+    small w.y1 w.y2 w.y3 (omega arith)
 
 pub returns : goal.returns
 unfolding doubled_area
