@@ -1,82 +1,99 @@
 // The instructions that touch the data memory: LD, ST and DOT, and READ and WRITE between it and the RAM.
 #![tactic(auto)]
 
-ghost use Rattle.std.specs.Prelude.{◌<◌, ◌≡◌, length};
+ghost use Rattle.std.specs.Prelude.{◌<◌, ◌≡◌, IfOk, ltb};
+ghost use Rattle.rules.specs.Folds.{choose};
+ghost use Rattle.instructions.specs.Answers.{halt_of};
 ghost use Rattle.instructions.specs.Opcodes.{LD, ST, DOT, READ, WRITE};
-ghost use Rattle.instructions.specs.Words.{opcode};
-ghost use Rattle.pieces.specs.Steps.{DataSteps, Going, Steps, plain};
+ghost use Rattle.instructions.specs.Words.{address, opcode};
+ghost use Rattle.pieces.specs.Steps.{DataSteps, Steps, plain, plain_after};
 
 use alu::dot::dot;
-use moves::{move_halt, read_words, write_words};
-use pieces::registers::{address_in, in_r1, in_r2, in_r3, put_result};
-use pieces::state::{Cpu, onward, stopped};
+use instructions::Halt;
+use moves::{move_check, read_words, write_words};
+use pieces::registers::Registers;
+use pieces::state::Cpu;
 
 // The last word of the data memory.
 const LAST: u32 = 1023;
 
-// The halt of LD, ST and DOT.
-const OUTSIDE: u32 = 13;
-
-pub fn do_ld(w: u32, memory: &[u32], regs: &mut [u32; 32], cpu: Cpu) -> Cpu
-    requires { (opcode w ≡ LD) × (length memory.now ≡ 1024) × Going regs.old cpu }
-    ensures { DataSteps w (plain regs.old cpu memory.now) (plain regs.new result memory.now) }
+// Where LD and ST read and write.
+fn data_address(w: u32, regs: &Registers) -> Result<usize, Halt>
+    ensures halt { halt_of result ≡ choose (ltb 1023 (address regs.now.words w)) 13 0 }
+    ensures place { IfOk result (λ a. (a ≡ address regs.now.words w) × (a < 1024)) }
 {
-    let a = address_in(regs, w);
+    let a = regs.address(w);
     if LAST < a {
-        return stopped(cpu, OUTSIDE);
+        return Err(Halt::OutsideData);
     }
-    put_result(w, regs, cpu, memory[a as usize])
+    Ok(a as usize)
 }
 
-pub fn do_st(w: u32, memory: &mut [u32], regs: &[u32; 32], cpu: Cpu) -> Cpu
-    requires { (opcode w ≡ ST) × (length memory.old ≡ 1024) × (cpu.place < 1024) }
-    ensures { DataSteps w (plain regs.now cpu memory.old) (plain regs.now result memory.new) }
+pub fn do_ld(w: u32, memory: &[u32; 1024], regs: &mut Registers, cpu: Cpu) -> Result<Cpu, Halt>
+    requires opcode { opcode w ≡ LD }
+    requires inside { cpu.place < 1024 }
+    ensures { DataSteps w (plain regs.old.words cpu memory.now) (plain_after regs.new.words cpu result memory.now) }
 {
-    let a = address_in(regs, w);
-    if LAST < a {
-        return stopped(cpu, OUTSIDE);
-    }
-    memory[a as usize] = in_r1(regs, w);
-    onward(cpu)
+    let a = data_address(w, regs)?;
+    Ok(regs.put_result(w, cpu, memory[a]))
 }
 
-pub fn do_dot(w: u32, memory: &[u32], regs: &mut [u32; 32], cpu: Cpu) -> Cpu
-    requires { (opcode w ≡ DOT) × (length memory.now ≡ 1024) × Going regs.old cpu }
-    ensures { DataSteps w (plain regs.old cpu memory.now) (plain regs.new result memory.now) }
+pub fn do_st(w: u32, memory: &mut [u32; 1024], regs: &Registers, cpu: Cpu) -> Result<Cpu, Halt>
+    requires opcode { opcode w ≡ ST }
+    requires inside { cpu.place < 1024 }
+    ensures { DataSteps w (plain regs.now.words cpu memory.old) (plain_after regs.now.words cpu result memory.new) }
 {
-    let a = in_r2(regs, w);
-    let b = in_r3(regs, w);
+    let a = data_address(w, regs)?;
+    memory[a] = regs.in_r1(w);
+    Ok(cpu.onward())
+}
+
+pub fn do_dot(w: u32, memory: &[u32; 1024], regs: &mut Registers, cpu: Cpu) -> Result<Cpu, Halt>
+    requires opcode { opcode w ≡ DOT }
+    requires inside { cpu.place < 1024 }
+    ensures { DataSteps w (plain regs.old.words cpu memory.now) (plain_after regs.new.words cpu result memory.now) }
+{
+    let a = regs.in_r2(w);
+    let b = regs.in_r3(w);
     if (1020 < a) | (1020 < b) {
-        return stopped(cpu, OUTSIDE);
+        return Err(Halt::OutsideData);
     }
     let v = dot(memory, a as usize, b as usize);
-    put_result(w, regs, cpu, v)
+    Ok(regs.put_result(w, cpu, v))
 }
 
-pub fn do_read(w: u32, regs: &[u32; 32], memory: &mut [u32], ram: &[u8], cpu: Cpu) -> Cpu
-    requires { (opcode w ≡ READ) × (length memory.old ≡ 1024) × (cpu.place < 1024) }
-    ensures { Steps w (plain regs.now cpu memory.old ram.now) (plain regs.now result memory.new ram.now) }
+pub fn do_read(
+    w: u32,
+    regs: &Registers,
+    memory: &mut [u32; 1024],
+    ram: &[u8],
+    cpu: Cpu,
+) -> Result<Cpu, Halt>
+    requires opcode { opcode w ≡ READ }
+    requires inside { cpu.place < 1024 }
+    ensures { Steps w (plain regs.now.words cpu memory.old ram.now) (plain_after regs.now.words cpu result memory.new ram.now) }
 {
-    let word = in_r1(regs, w);
-    let byte = in_r2(regs, w);
-    let halt = move_halt(ram.len(), word, byte);
-    if halt != 0 {
-        return stopped(cpu, halt);
-    }
+    let word = regs.in_r1(w);
+    let byte = regs.in_r2(w);
+    move_check(ram.len(), word, byte)?;
     read_words(memory, ram, word as usize, byte as usize);
-    onward(cpu)
+    Ok(cpu.onward())
 }
 
-pub fn do_write(w: u32, regs: &[u32; 32], memory: &[u32], ram: &mut [u8], cpu: Cpu) -> Cpu
-    requires { (opcode w ≡ WRITE) × (length memory.now ≡ 1024) × (cpu.place < 1024) }
-    ensures { Steps w (plain regs.now cpu memory.now ram.old) (plain regs.now result memory.now ram.new) }
+pub fn do_write(
+    w: u32,
+    regs: &Registers,
+    memory: &[u32; 1024],
+    ram: &mut [u8],
+    cpu: Cpu,
+) -> Result<Cpu, Halt>
+    requires opcode { opcode w ≡ WRITE }
+    requires inside { cpu.place < 1024 }
+    ensures { Steps w (plain regs.now.words cpu memory.now ram.old) (plain_after regs.now.words cpu result memory.now ram.new) }
 {
-    let word = in_r1(regs, w);
-    let byte = in_r2(regs, w);
-    let halt = move_halt(ram.len(), word, byte);
-    if halt != 0 {
-        return stopped(cpu, halt);
-    }
+    let word = regs.in_r1(w);
+    let byte = regs.in_r2(w);
+    move_check(ram.len(), word, byte)?;
     write_words(ram, memory, word as usize, byte as usize);
-    onward(cpu)
+    Ok(cpu.onward())
 }

@@ -7,11 +7,12 @@ use mathlib.Core.List.{List}
 use native.Mathlib.Omega.{arith}
 use lib.ListN.{length}
 use borrow.Author.Tests.{lt-leb, le-leb, ne_eqb}
+use Rattle.std.specs.Prelude.{Result, Ok, Err, IsErrAnd}
 use Rattle.rules.specs.Folds.{choose}
 use Rattle.instructions.specs.declared.Halt.{Halt}
 use Rattle.instructions.specs.declared.Halt.TheVariants.{NoInstruction, PastProgram, OutsideData, NoTree, MoveOutsideData}
 use Rattle.instructions.specs.declared.Halt.TheVariants.{MoveOutsideRam, NoScreen}
-use Rattle.instructions.specs.Answers.{number_of_halt}
+use Rattle.instructions.specs.Answers.{number_of_halt, halt_of}
 use Rattle.instructions.specs.Opcodes.{current, ST, LI, ASRI, JMP, CALL}
 use Rattle.instructions.specs.Words.{opcode, r1, address, with_register}
 use Rattle.instructions.specs.Arithmetic.{result, sets_flags}
@@ -22,7 +23,7 @@ use Rattle.instructions.proofs.Effects.{effect-result, effect-CALL, effect_jump}
 use Rattle.pieces.specs.declared.state.Cpu.{Cpu}
 use Rattle.pieces.specs.declared.state.View.{View}
 use Rattle.pieces.specs.Pieces.{joined, machine, at, resulted}
-use Rattle.pieces.specs.Steps.{stepped, RegisterSteps}
+use Rattle.pieces.specs.Steps.{stepped, left, RegisterSteps}
 use Rattle.pieces.proofs.Cases.{case-none}
 
 -- what stands before the jumps is none
@@ -49,6 +50,14 @@ module _ (regs : List ℕ) (cpu : Cpu) (view : View) (memory ram : List ℕ) (w 
   pub stops : (h : Halt) → halt ≡ number_of_halt h → machine regs cpu (number_of_halt h) view memory ram ≡ stepped before w
   unfolding stepped with_halt
   stops h e = rw (e, ne_eqb (number_of_halt h) 0 (halt-not_zero h))
+
+  -- where the halt comes by a `?`
+  pub stops_with : (h : Halt) (answer : Result Cpu Halt)
+      → IsErrAnd answer (λ e. e ≡ h)
+      → halt ≡ number_of_halt h
+      → machine regs (left cpu answer) (halt_of answer) view memory ram ≡ stepped before w
+  stops_with h (Ok next) x e = absurd x
+  stops_with h (Err g) x e = rw x (stops h e)
 
   -- any instruction but a jump goes on to the next place
   pub goes_onward : (regs' : List ℕ) (cpu' : Cpu) (view' : View) (memory' ram' : List ℕ)

@@ -1,13 +1,11 @@
 -- A start above 1,020 is the halt 13; from any other four words are read on each side.
 use Prim.Native.Nat.{ℕ}
-use mathlib.Core.Path.{◌≡◌, sym, ◌∙◌, ap, ap₂}
+use mathlib.Core.Path.{sym, ◌∙◌, ap, ap₂}
 use mathlib.Core.Bool.{Bool, ◌||◌}
-use native.Mathlib.Omega.{arith}
 use lib.ListN.{length}
 use lib.Dec.{ltb}
 use Rattle.rules.specs.Folds.{choose}
-use Rattle.instructions.specs.Opcodes.{DOT}
-use Rattle.instructions.specs.Words.{opcode}
+use Rattle.instructions.specs.declared.Halt.TheVariants.{OutsideData}
 use Rattle.instructions.specs.Arithmetic.{sets_flags, dot}
 use Rattle.instructions.specs.Jumps.{is_jump}
 use Rattle.pieces.specs.Pieces.{joined}
@@ -24,22 +22,21 @@ pub returns-then-a-b : goal.returns-then-a-b
 returns-then-a-b c =
     λ ram view.
     let a = c.args in
-    let s = joined a.regs.now a.cpu view in
-    stops a.regs.now a.cpu view a.memory.now ram a.w 13 _ c.stopped.ensures
-    (case-DOT (length ram) s a.w c.requires.0 ∙ ap (λ (t : Bool). choose t 13 0) (sym (ap₂ above c.in_r2-a.ensures c.in_r3-b.ensures) ∙ c.if-a-b.true))
-    (λ q. omega (arith, q))
+    stops a.regs.now.words a.cpu view a.memory.now ram a.w OutsideData
+    (case-DOT (length ram) (joined a.regs.now.words a.cpu 0 view) a.w c.requires.opcode
+    ∙ ap (λ (t : Bool). choose t 13 0) (sym (ap₂ above c.in_r2-a.ensures c.in_r3-b.ensures) ∙ c.if-a-b.true))
 
 pub returns : goal.returns
 returns c =
     λ ram view.
     let a = c.args in
-    let s = joined a.regs.now a.cpu view in
-    let e : opcode a.w ≡ DOT = c.requires.0 in
-    puts_result a.regs.now a.cpu view a.memory.now ram a.w _ _ _
-    (case-DOT (length ram) s a.w e ∙ ap (λ (t : Bool). choose t 13 0) (sym (ap₂ above c.in_r2-a.ensures c.in_r3-b.ensures) ∙ c.if-a-b.false))
+    let e = c.requires.opcode in
+    puts_result a.regs.now.words a.cpu view a.memory.now ram a.w _ _ _
+    (case-DOT (length ram) (joined a.regs.now.words a.cpu 0 view) a.w e
+    ∙ ap (λ (t : Bool). choose t 13 0) (sym (ap₂ above c.in_r2-a.ensures c.in_r3-b.ensures) ∙ c.if-a-b.false))
     (ap sets_flags e)
     (ap is_jump e)
     (c.dot-v.ensures
     ∙ ap₂ (dot a.memory.now) c.in_r2-a.ensures c.in_r3-b.ensures
-    ∙ sym (result-DOT a.memory.now a.regs.now a.w e))
-    c.put_result.ensures
+    ∙ sym (result-DOT a.memory.now a.regs.now.words a.w e))
+    c.put_result.ensures.registers c.put_result.ensures.cpu

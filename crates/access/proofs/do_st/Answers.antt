@@ -1,34 +1,26 @@
 -- An address above 1,023 is the halt 13; at any other the word is stored.
-use Prim.Native.Nat.{ℕ, ◌<◌, ◌≤◌}
-use mathlib.Core.Path.{◌∙◌, ap₂}
-use native.Mathlib.Omega.{arith}
+use Prim.Native.Nat.{ℕ}
+use mathlib.Core.Path.{sym, ◌∙◌, ap₂}
 use lib.ListN.{length, set}
-use borrow.Author.Tests.{lt-ltb, le-ltb}
-use Rattle.instructions.specs.Words.{address}
 use Rattle.pieces.specs.Pieces.{joined}
 use Rattle.pieces.proofs.Cases.{case-ST}
-use Rattle.pieces.proofs.Joined.{stops}
+use Rattle.pieces.proofs.Joined.{stops_with}
 use Rattle.access.proofs.Accesses.{stores}
 use Rattle.access.proofs.do_st.Goals as goal
 
-pub returns-then-a-gt-LAST : goal.returns-then-a-gt-LAST
-returns-then-a-gt-LAST c =
+pub returns-in_err-a : goal.returns-in_err-a
+returns-in_err-a c =
     λ ram view.
     let a = c.args in
-    let s = joined a.regs.now a.cpu view in
-    let h : 1023 < address a.regs.now a.w = omega (arith, c.address_in-a.ensures, c.if-a-gt-LAST.true) in
-    stops a.regs.now a.cpu view a.memory.now ram a.w 13 _ c.stopped.ensures
-    (case-ST (length ram) s a.w c.requires.0 ∙ rw (lt-ltb 1023 (address a.regs.now a.w) h))
-    (λ q. omega (arith, q))
+    stops_with a.regs.now.words a.cpu view a.memory.now ram a.w _ _ c.from_residual.ensures.1
+    (case-ST (length ram) (joined a.regs.now.words a.cpu 0 view) a.w c.requires.opcode ∙ sym c.in_err-a.ensures.halt)
 
 pub returns : goal.returns
 returns c =
     λ ram view.
     let a = c.args in
-    let s = joined a.regs.now a.cpu view in
-    let h : address a.regs.now a.w ≤ 1023 = omega (arith, c.address_in-a.ensures, c.if-a-gt-LAST.false) in
-    stores a.regs.now a.cpu view a.memory.now ram a.w _
-    (case-ST (length ram) s a.w c.requires.0 ∙ rw (le-ltb 1023 (address a.regs.now a.w) h))
+    stores a.regs.now.words a.cpu view a.memory.now ram a.w _
+    (case-ST (length ram) (joined a.regs.now.words a.cpu 0 view) a.w c.requires.opcode ∙ sym c.in_ok-a.ensures.halt)
     c.onward.ensures
-    _ c.requires.0
-    (ap₂ (λ (i v : ℕ). set a.memory.now i v) c.address_in-a.ensures c.in_r1.ensures)
+    _ c.requires.opcode
+    (ap₂ (λ (i v : ℕ). set a.memory.now i v) c.in_ok-a.ensures.place.0 c.in_r1.ensures)
