@@ -1,0 +1,17 @@
+-- The greatest of the three, and what it is raised by, as integers.
+use native.Mathlib.Omega.{arith}
+use Rattle.std.proofs.Common.{rules}
+use Rattle.std.proofs.lemmas.Int.{ints, int_max_is}
+use Rattle.extent.proofs.Numbers.past_touched.Goals as goal
+
+pub overflow_cast-result : goal.overflow_cast-result
+overflow_cast-result c =
+    (search (arith, ints, rules, c.max-3.ensures.other_bound), record { fits = omega (arith, ints, int_max_is, c.max-3.ensures.value) })
+
+pub returns : goal.returns
+returns c k h =
+    record {
+      first = omega (arith, ints, int_max_is, c.max-3.ensures.value);
+      second = omega (arith, ints, int_max_is, c.max-3.ensures.value);
+      third = omega (arith, ints, int_max_is, c.max-3.ensures.value);
+    }
