@@ -1,11 +1,11 @@
-// A tree's leaves: what TREESET, TREEIN and TREEVAL 1 to 3 make of them. A leaf's value is added up: no leaf needs a product.
+// A tree's leaves: what TREESET, TREEIN and TREEVAL 1 to 3 make of them.
 #![tactic(auto)]
 
-ghost use Rattle.std.specs.Prelude.{◌≡◌};
+ghost use Rattle.std.specs.Prelude.{◌<◌, ◌≡◌};
 ghost use Rattle.rules.specs.Triangles.{positive, negative};
 ghost use Rattle.instructions.specs.Words.{signed};
 ghost use Rattle.leaves.specs.Channels.{channel_number};
-ghost use Rattle.instructions.specs.Tree.{refuses_place, tree_set, past_leaves, tree_in, replaced, tree_colour};
+ghost use Rattle.instructions.specs.Tree.{refuses_place, tree_set, leaf_value, past_leaves, tree_in, replaced, tree_colour};
 
 use instructions::Tree;
 use rules::Screen;
@@ -68,15 +68,23 @@ fn negative(v: u32) -> bool
     v.cast_signed() < 0
 }
 
+// What TREEIN and TREEVAL give leaf k. A product, so that no leaf waits for the one before, and wide operations serve.
+#[tactic(auto, unfolding(instructions::specs::Tree::leaf_value))]
+pub fn leaf_value(a: u32, b: u32, k: usize) -> u32
+    requires { k < 16 }
+    ensures { result ≡ leaf_value a b k }
+{
+    a.wrapping_add((k as u32).wrapping_mul(b))
+}
+
 // TREEIN, with r1 and r2 as they were at entry.
 pub fn tree_in(tree: &mut Tree, a: u32, b: u32)
     ensures { tree.new ≡ tree_in a b tree.old }
 {
-    let mut v = a;
     for k in 0..16 {
+        let v = leaf_value(a, b, k);
         tree.inside[k] &= !positive(v);
         tree.outside[k] |= negative(v);
-        v = v.wrapping_add(b);
     }
 }
 
@@ -97,9 +105,7 @@ fn replaced(channel: Channel, v: u32, c: u16) -> u16
 pub fn tree_colour(tree: &mut Tree, channel: Channel, a: u32, b: u32)
     ensures { tree.new ≡ tree_colour (channel_number channel) a b tree.old }
 {
-    let mut v = a;
     for k in 0..16 {
-        tree.colour[k] = replaced(channel, v, tree.colour[k]);
-        v = v.wrapping_add(b);
+        tree.colour[k] = replaced(channel, leaf_value(a, b, k), tree.colour[k]);
     }
 }

@@ -6,6 +6,7 @@ ghost use Rattle.instructions.specs.Tree.{tree_depth, tree_put};
 ghost use Rattle.tree.specs.Leaves.{Placed, halves, stored};
 
 use instructions::Tree;
+use leaves::leaf_value;
 use ram::{load_half, store_half};
 use rules::Screen;
 use screen::sizes::{colour_at, depth_at};
@@ -28,14 +29,12 @@ pub fn tree_depth(ram: &[u8], s: Screen, tree: &mut Tree, a: u32, b: u32)
     ensures { tree.new ≡ tree_depth s ram.now a b tree.old }
 {
     let found = load_halves(ram, depth_at(s, tree.column, tree.row));
-    let mut v = a;
     for k in 0..16 {
-        let z = (v / 65536) as u16;
+        let z = (leaf_value(a, b, k) / 65536) as u16;
         let deep = found[k] < z;
         tree.inside[k] &= !deep;
         tree.outside[k] |= deep;
         tree.depth[k] = z;
-        v = v.wrapping_add(b);
     }
     tree.held = true;
 }

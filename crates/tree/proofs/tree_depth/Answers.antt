@@ -1,5 +1,5 @@
--- `tree_depth` leaves TREEVAL 0's tree: the loop fills the marks and the depths leaf by leaf, its value goes from leaf to leaf, and all else
--- of the tree stays. The half-words that it judges by are the leaves' stored depths, which stand side by side.
+-- `tree_depth` leaves TREEVAL 0's tree: the loop fills the marks and the depths leaf by leaf, and all else of the tree stays.
+-- The half-words that it judges by are the leaves' stored depths, which stand side by side.
 use Rattle.std.proofs.Common.{rules, arith, refl, sym, ◌∙◌, ap, ap₂, ◌≡◌, ℕ, ◌+◌, ◌*◌, ◌/◌, ◌<◌, true, false, ◌&&◌, ◌||◌, not, get_or, nat_lt}
 use Rattle.ram.specs.Ram.{load_half}
 use Rattle.rules.specs.Triangles.{top_half}
@@ -7,7 +7,6 @@ use Rattle.instructions.specs.declared.Tree.{Tree}
 use Rattle.instructions.specs.Tree.{mark_i, mark_o, marked, deepened, leaf_value, too_deep, tree_depth}
 use Rattle.instructions.proofs.Leaves.{leaf_at_lem, leaves_same}
 use Rattle.instructions.proofs.Filled.{filled_none, filled_kept, filled_more, filled_all}
-use Rattle.leaves.proofs.Values.{value-first, value-next, value-small}
 use Rattle.tree.proofs.Standing.{depth_leaf_fits, depth-from}
 use Rattle.tree.proofs.tree_depth.Invariants.{deep, judged}
 use Rattle.tree.proofs.tree_depth.Goals as goal
@@ -33,17 +32,11 @@ load_halves-found-requires c =
 
 pub loop-k-init : goal.loop-k-init
 loop-k-init c = record {
-  value = value-first _ _ (omega arith);
   inside = filled_none (search rules);
   outside = filled_none (search rules);
   depth = filled_none (search rules);
   rest = refl;
 }
-
-pub overflow_cast-z : goal.overflow_cast-z
-overflow_cast-z c =
-    let l = c.loop-k in
-    omega (arith, l.invariant.value, value-small c.args.a c.args.b l.k)
 
 pub loop-k-preserved : goal.loop-k-preserved
 unfolding top_half
@@ -51,10 +44,9 @@ loop-k-preserved c =
     let l = c.loop-k in
     let i = l.invariant in
     let h = c.loop-k-test.true in
-    let z = ap (λ (v : ℕ). v / 65536) i.value in
+    let z = ap (λ (v : ℕ). v / 65536) c.leaf_value.ensures in
     let is_deep = ap (nat_lt (get_or c.load_halves-found.result l.k 0)) z in
     record {
-      value = value-next c.args.a c.args.b l.k i.value refl;
       inside = filled_more i.inside h (ap₂ (λ m p. m && not p) (filled_kept i.inside false h) is_deep);
       outside = filled_more i.outside h (ap₂ (λ m p. m || p) (filled_kept i.outside false h) is_deep);
       depth = filled_more i.depth h z;

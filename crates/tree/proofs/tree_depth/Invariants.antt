@@ -1,5 +1,4 @@
--- `tree_depth` leaves TREEVAL 0's tree: the loop fills the marks and the depths leaf by leaf, its value goes from leaf to leaf, and all else
--- of the tree stays.
+-- `tree_depth` leaves TREEVAL 0's tree: the loop fills the marks and the depths leaf by leaf, and all else of the tree stays.
 use Rattle.std.proofs.Common.{◌≡◌, ℕ, Bool, ◌&&◌, ◌||◌, not, List, get_or, nat_lt}
 use Rattle.rules.specs.Triangles.{top_half}
 use Rattle.instructions.specs.declared.Tree.{Tree}
@@ -25,7 +24,6 @@ judged inside outside depth t = record {
 
 abbrev pub invariant-loop-k : goal.invariant-loop-k
 invariant-loop-k l = record {
-  value : l.v ≡ leaf_value l.a l.b l.k;
   inside : Filled (λ i. mark_i l.initial.tree i && not (deep l.found l.a l.b i)) l.k l.initial.tree.inside l.tree.inside;
   outside : Filled (λ i. mark_o l.initial.tree i || deep l.found l.a l.b i) l.k l.initial.tree.outside l.tree.outside;
   depth : Filled (λ i. top_half (leaf_value l.a l.b i)) l.k l.initial.tree.depth l.tree.depth;
