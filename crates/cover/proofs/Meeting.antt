@@ -142,7 +142,7 @@ module _ (t : Vertices) (y : ℕ) (v : vertices_in_range t ≡ true) (i : y ≤ 
       (end-at u m.r d.r.ends (raise - unit * w) ∙ ap (λ (u : Bool). (not d.r.ends || ltb (unit * x + m.r) raise) && u) last))))
 
   -- no column is both from the beginning on and before the end
-  pub span_none : least_of m d ≤ most_of m d w → RowSpan t y w (record { from = 0; to = 0 })
+  pub span_none : least_of m d ≤ most_of m d w → RowSpan t y w (record { start = 0; end = 0 })
   span_none l =
       record {
         ordered = omega arith;
@@ -154,7 +154,7 @@ module _ (t : Vertices) (y : ℕ) (v : vertices_in_range t ≡ true) (i : y ≤ 
       go x true e = le-ltb (unit * x + most_of m d w) raise (omega (arith, leb-true raise (unit * x + least_of m d) e))
       go x false e = refl
 
-  pub span_some : most_of m d w < least_of m d → RowSpan t y w (record { from = column (least_of m d); to = column (most_of m d w) })
+  pub span_some : most_of m d w < least_of m d → RowSpan t y w (record { start = column (least_of m d); end = column (most_of m d w) })
   span_some l =
       record {
         ordered = omega arith;

@@ -4,7 +4,7 @@ use Rattle.rules.specs.declared.Vertices.{Vertices}
 use Rattle.rules.specs.Folds.{choose}
 use Rattle.rules.specs.Triangles.{sample, inside_all}
 use Rattle.masks.specs.Span.{in_span}
-use Rattle.cover.specs.declared.Span.{Span}
+use Rattle.std.specs.declared.ops.Range.{Range}
 use Rattle.cover.specs.Units.{unit, raise}
 
 -- of two crossings, the one whose column is further right; one where the inside ends does not count
@@ -20,7 +20,7 @@ abbrev pub column : ℕ → ℕ
 column crossing = (raise - crossing + (unit - 1)) / unit
 
 -- the pixels of row y inside all three edges, among the first w, are those of the columns r
-pub record RowSpan (t : Vertices) (y w : ℕ) (r : Span) : Type 0 where
-  pub ordered : r.from ≤ r.to
-  pub limited : r.to ≤ w
-  pub spans : (x : ℕ) → x < w → inside_all t (sample x y) ≡ in_span r.from r.to x
+pub record RowSpan (t : Vertices) (y w : ℕ) (r : Range ℕ) : Type 0 where
+  pub ordered : r.start ≤ r.end
+  pub limited : r.end ≤ w
+  pub spans : (x : ℕ) → x < w → inside_all t (sample x y) ≡ in_span r.start r.end x

@@ -1,37 +1,36 @@
 // The three edges' crossings, from row to row.
-ghost use Rattle.std.specs.Prelude.{◌≡◌, true, ℕ, ◌+◌, ◌≤◌};
+ghost use Rattle.std.specs.Prelude.{ℕ, ◌+◌, ◌≤◌};
 ghost use Rattle.rules.specs.declared.Vertices.{Vertices};
-ghost use Rattle.rules.specs.Numbers.{vertices_in_range};
-ghost use Rattle.edges.specs.Edges.{edge_from, edge_in_range};
+ghost use Rattle.edges.specs.Corners.{edge_of};
 ghost use Rattle.cover.specs.Side.{SidesOf, CrossingOf, CrossingsOf, CanGoBelow};
 
 use crate::setup::rising_value;
 use crate::ticks::in_ticks;
 use crate::units::{LIFT, RAISE};
 use crate::{Crossings, Sides};
-use edges::values::edge_value;
-use rules::Vertices;
+use edges::corners::Corners;
+use edges::values::Edge;
 
 // An edge's crossing in row y.
-fn crossing(x1: i32, y1: i32, x2: i32, y2: i32, y: u32) -> u64
-    requires { (edge_in_range (edge_from x1 y1 x2 y2) ≡ true) × (y ≤ 512) }
-    ensures { CrossingOf (edge_from x1 y1 x2 y2) y result }
+fn crossing(e: Edge, y: u32) -> u64
+    requires { y ≤ 512 }
+    ensures { CrossingOf (edge_of e) y result }
 {
-    let dx = x2 as i64 - x1 as i64;
-    let dy = y2 as i64 - y1 as i64;
-    let v = edge_value(x1, y1, x2, y2, 0, y);
+    let dx = e.dx();
+    let dy = e.dy();
+    let v = e.value(0, y);
     in_ticks(rising_value(v, dx, dy), dy, RAISE)
 }
 
 // The crossings in row y.
-pub fn crossings_at(v: Vertices, y: u32) -> Crossings
-    requires { (vertices_in_range v ≡ true) × (y ≤ 512) }
-    ensures { CrossingsOf v y result }
+pub fn crossings_at(c: Corners, y: u32) -> Crossings
+    requires { y ≤ 512 }
+    ensures { CrossingsOf c.vertices y result }
 {
     Crossings {
-        p: crossing(v.x1, v.y1, v.x2, v.y2, y),
-        q: crossing(v.x2, v.y2, v.x3, v.y3, y),
-        r: crossing(v.x3, v.y3, v.x1, v.y1, y),
+        p: crossing(c.edge1(), y),
+        q: crossing(c.edge2(), y),
+        r: crossing(c.edge3(), y),
     }
 }
 

@@ -30,10 +30,3 @@ pub struct Crossings {
     pub q: u64,
     pub r: u64,
 }
-
-// From `from` up to but not including `to`.
-#[derive(Clone, Copy)]
-pub struct Span {
-    pub from: u32,
-    pub to: u32,
-}

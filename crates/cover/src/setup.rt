@@ -1,18 +1,19 @@
 // From vertices to sides.
-ghost use Rattle.std.specs.Prelude.{◌≡◌, true, ◌≤◌, nat_abs};
-ghost use Rattle.rules.specs.Numbers.{vertices_in_range};
-ghost use Rattle.edges.specs.Edges.{edge_from, edge_in_range};
+ghost use Rattle.std.specs.Prelude.{◌≡◌, ◌≤◌, nat_abs};
+ghost use Rattle.edges.specs.Corners.{edge_of};
 ghost use Rattle.cover.specs.Side.{loss, rising_value, down, SideOf, SidesOf};
 
 use crate::ticks::in_ticks;
 use crate::units::LIFT;
 use crate::{Side, Sides};
-use rules::Vertices;
+use edges::corners::Corners;
+use edges::values::Edge;
 
 // What an edge's value loses where its zeros are outside.
 #[tactic(auto, unfolding(rules::specs::Triangles::keeps_zero))]
 pub fn loss(dx: i64, dy: i64) -> i64
-    ensures { result ≡ loss dx dy }
+    ensures lost { result ≡ loss dx dy }
+    ensures bound { nat_abs result ≤ 1 }
 {
     if 0 < dy {
         return 1;
@@ -50,13 +51,12 @@ fn down(dx: i64, dy: i64) -> i64
     8 * dx
 }
 
-// The side of the edge from (x1, y1) to (x2, y2).
-fn side(x1: i32, y1: i32, x2: i32, y2: i32) -> Side
-    requires { edge_in_range (edge_from x1 y1 x2 y2) ≡ true }
-    ensures { SideOf (edge_from x1 y1 x2 y2) result }
+// The side of an edge.
+fn side(e: Edge) -> Side
+    ensures { SideOf (edge_of e) result }
 {
-    let dx = x2 as i64 - x1 as i64;
-    let dy = y2 as i64 - y1 as i64;
+    let dx = e.dx();
+    let dy = e.dy();
     Side {
         down: in_ticks(down(dx, dy), dy, LIFT),
         ends: 0 < dy,
@@ -64,12 +64,12 @@ fn side(x1: i32, y1: i32, x2: i32, y2: i32) -> Side
 }
 
 // The sides of the three edges, in the vertices' order.
-pub fn sides(v: Vertices) -> Sides
-    requires { vertices_in_range v ≡ true }
-    ensures { SidesOf v result }
+pub fn sides(c: Corners) -> Sides
+    ensures { SidesOf c.vertices result }
 {
-    let p = side(v.x1, v.y1, v.x2, v.y2);
-    let q = side(v.x2, v.y2, v.x3, v.y3);
-    let r = side(v.x3, v.y3, v.x1, v.y1);
-    Sides { p, q, r }
+    Sides {
+        p: side(c.edge1()),
+        q: side(c.edge2()),
+        r: side(c.edge3()),
+    }
 }

@@ -16,28 +16,20 @@ fn across(dy: i64) -> u64
     requires { nat_abs dy ≤ 16384 }
     ensures { result ≡ across dy }
 {
-    if 0 < dy {
-        return (8 * dy) as u64;
-    }
-    if dy < 0 {
-        return (0 - 8 * dy) as u64;
-    }
-    1
+    (8 * dy.unsigned_abs()).max(1)
 }
 
 // What the rising value is multiplied by: the ticks of a column, or of 640 columns where it does not rise.
 fn scale(dy: i64) -> i64
     ensures { result ≡ scale dy }
 {
-    if dy == 0 {
-        return LEVEL_SCALE;
-    }
-    SCALE
+    if dy == 0 { LEVEL_SCALE } else { SCALE }
 }
 
 // v by the step across, in ticks of a column, rounded up and raised by r.
 pub fn in_ticks(v: i64, dy: i64, r: u64) -> u64
-    requires { (nat_abs dy ≤ 16384) × Raisable (scale dy *ℤ v) r }
+    requires near { nat_abs dy ≤ 16384 }
+    requires raisable { Raisable (scale dy *ℤ v) r }
     ensures { Rounded (scale dy *ℤ v) (across dy) r 1 result }
 {
     rounded_up(scale(dy) * v, across(dy), r)

@@ -18,15 +18,13 @@ fn folded(z: i64) -> u64
     requires { nat_abs z ≤ 9000000000000000000 }
     ensures { pos result ≡ choose (negative z) (negsuc 0 -ℤ z) z }
 {
-    if z < 0 {
-        return (-1 - z) as u64;
-    }
-    z as u64
+    (if z < 0 { -1 - z } else { z }) as u64
 }
 
 // A whole number that is z / a or more, by 1 at most, raised by r.
 pub fn rounded_up(z: i64, a: u64, r: u64) -> u64
-    requires { Raisable z r × (1 ≤ a) }
+    requires raisable { Raisable z r }
+    requires divides { 1 ≤ a }
     ensures { Rounded z a r 1 result }
 {
     let on = folded(z) / a;

@@ -13,7 +13,7 @@ use Rattle.cover.proofs.setup.rising_value.Goals as goal
 pub returns-then-dy-gt0 : goal.returns-then-dy-gt0
 unfolding lowered
 returns-then-dy-gt0 c =
-    let lost : c.loss.result ≡ loss c.args.dx c.args.dy = c.loss.ensures ∙ ap₂ loss (to_z-of_z w64 c.args.dx c.ranges.dx) (to_z-of_z w64 c.args.dy c.ranges.dy) in
+    let lost : c.loss.result ≡ loss c.args.dx c.args.dy = c.loss.ensures.lost ∙ ap₂ loss (to_z-of_z w64 c.args.dx c.ranges.dx) (to_z-of_z w64 c.args.dy c.ranges.dy) in
     let lowered_c : Code w64 = known (got_arg c.ranges.v (record { within = c.requires }))
     ⊟ known (got_in {b = 1} (subst (Within 1) (sym lost) (loss_within c.args.dx c.args.dy)) tt) in
     let is-lowered : let a = c.args in meant lowered_c ≡ lowered a.v a.dx a.dy = ap (λ (z : ℤ). c.args.v -ℤ z) lost in

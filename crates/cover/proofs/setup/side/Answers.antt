@@ -5,14 +5,13 @@ use lib.IntN.{nat_abs, ◌*ℤ◌}
 use mir.Syntax.{w64}
 use mir.Val.{to_z, of_z}
 use Rattle.ints.proofs.Bounds.{Within, within_sub}
-use Rattle.ints.proofs.Machine.{Code, word_of, reads_as, size_of}
+use Rattle.ints.proofs.Machine.{Code, word_of, reads_as}
 use Rattle.rules.specs.Triangles.{Edge, dx, dy}
+use Rattle.edges.specs.Corners.{edge_of}
+use Rattle.edges.proofs.Within.{edge_within}
+use Rattle.edges.proofs.Codes.{answered}
 use Rattle.cover.specs.Units.{lift, Rounded}
-use Rattle.edges.specs.Edges.{edge_from}
 use Rattle.cover.specs.Side.{across, scale, down}
-use Rattle.edges.proofs.Within.{EdgeWithin, edge_within}
-use Rattle.edges.proofs.Codes as code
-use Rattle.edges.proofs.Codes.{Differences, differences}
 use Rattle.cover.proofs.Signs.{code_above, scaled_read}
 use Rattle.cover.proofs.Crossing.{down_within, down_scaled_within}
 use Rattle.cover.proofs.setup.side.Goals.{After-down}
@@ -20,32 +19,29 @@ use Rattle.cover.proofs.setup.side.Goals as goal
 
 module _ (c : After-down) where
   abbrev edge : Edge
-  edge = edge_from c.args.x1 c.args.y1 c.args.x2 c.args.y2
-
-  in_range : EdgeWithin edge
-  in_range = edge_within edge c.requires
+  edge = edge_of c.args.e
 
   abbrev dx_c : Code w64
-  dx_c = code.dx_c edge in_range
+  dx_c = answered c.dx-dx.ensures.distance c.dx-dx.ensures.bound tt
 
   abbrev dy_c : Code w64
-  dy_c = code.dy_c edge in_range
+  dy_c = answered c.dy-dy.ensures.distance c.dy-dy.ensures.bound tt
 
   is_down : c.down.result ≡ down (dx edge) (dy edge)
   is_down = c.down.ensures ∙ ap₂ down (reads_as dx_c tt) (reads_as dy_c tt)
 
   small : Within 16384 (dx edge)
-  small = let w = in_range in within_sub w.in_x2 w.in_x1
+  small = let w = edge_within edge c.args.e.in_range in within_sub w.in_x2 w.in_x1
 
   is_scaled : scale (to_z w64 (word_of dy_c)) *ℤ to_z w64 (of_z w64 c.down.result) ≡ scale (dy edge) *ℤ down (dx edge) (dy edge)
   is_scaled = scaled_read dy_c tt is_down (down_within (dx edge) (dy edge) small) (omega arith)
 
-pub in_ticks-requires : goal.in_ticks-requires
-in_ticks-requires c =
-    let p = (goal.at.in_ticks-requires c).After-down in
+pub in_ticks-requires-clause-raisable : goal.in_ticks-requires-clause-raisable
+in_ticks-requires-clause-raisable c =
+    let p = (goal.at.in_ticks-requires-clause-raisable c).After-down in
     let n = ap nat_abs (is_scaled p) in
     let w = down_scaled_within (dx (edge p)) (dy (edge p)) (small p) in
-    (size_of (dy_c p) tt, record { fits = omega (arith, n, w.within); below = omega (arith, n, w.within); most = omega arith })
+    record { fits = omega (arith, n, w.within); below = omega (arith, n, w.within); most = omega arith }
 
 pub returns : goal.returns
 returns c =

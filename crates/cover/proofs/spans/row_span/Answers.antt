@@ -29,7 +29,7 @@ returns-then-least-most c t y v i o h =
 pub returns : goal.returns
 returns c t y v i o h =
     let p = (goal.at.returns c).After-end-most in
-    subst₂ (λ (f g : ℕ). RowSpan t y c.args.w (record { from = f; to = g }))
+    subst₂ (λ (f g : ℕ). RowSpan t y c.args.w (record { start = f; end = g }))
     (sym (c.column.ensures ∙ ap column (least p)))
     (sym (c.column-2.ensures ∙ ap column (most p)))
     (span_some t y v i c.args.d c.args.m o h c.args.w c.requires (omega (arith, least p, most p, c.if-least-most.false)))

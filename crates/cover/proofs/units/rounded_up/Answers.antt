@@ -31,9 +31,9 @@ pub returns-then-z-lt0 : goal.returns-then-z-lt0
 returns-then-z-lt0 c =
     let is-folded : pos c.folded.result ≡ fold c.args.z = c.folded.ensures ∙ ap fold (to_z-of_z w64 c.args.z c.ranges.z) in
     let z = c.args.z in
-    rounded_back c.folded.result c.args.a c.args.r c.requires.1
+    rounded_back c.folded.result c.args.a c.args.r c.requires.divides
     (is_one z c.folded.result true is-folded (read_below z c.ranges.z c.if-z-lt0.true))
-    (omega (arith, size z c.folded.result is-folded, c.requires.0.below))
+    (omega (arith, size z c.folded.result is-folded, c.requires.raisable.below))
 
 pub returns : goal.returns
 returns c =
@@ -42,4 +42,4 @@ returns c =
     let n = c.folded.result in
     subst (λ (y : ℤ). Rounded y c.args.a c.args.r 1 (c.args.r + n / c.args.a + 1))
     (is_one z n false is-folded (read_below z c.ranges.z c.if-z-lt0.false))
-    (rounded_on n c.args.a c.args.r c.requires.1)
+    (rounded_on n c.args.a c.args.r c.requires.divides)
