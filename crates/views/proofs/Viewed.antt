@@ -1,7 +1,7 @@
 -- The pieces after an instruction from SCRSET on, put together, are the machine after its step; and what a state promises of its
 -- screen and tree.
 use Prim.Native.Nat.{ℕ, ◌+◌}
-use mathlib.Core.Path.{◌≡◌, refl, sym, ◌∙◌, ap, ap₂}
+use mathlib.Core.Path.{◌≡◌, sym, ◌∙◌, ap}
 use mathlib.Core.Logic.{◌≢◌}
 use mathlib.Core.Bool.{true, false}
 use mathlib.Core.List.{List}
@@ -24,10 +24,9 @@ use Rattle.instructions.proofs.Effects.{effect-SCRSET, effect-CLS, effect-TREESE
 use Rattle.tree.specs.Leaves.{Placed}
 use Rattle.pieces.specs.declared.state.Cpu.{Cpu}
 use Rattle.pieces.specs.declared.state.View.{View}
-use Rattle.pieces.specs.Pieces.{joined, machine, at, stopped, screened, treed}
+use Rattle.pieces.specs.Pieces.{joined, machine, at, screened, treed}
 use Rattle.pieces.specs.Steps.{stepped, Shows}
-use Rattle.pieces.proofs.Joined.{stops, goes_onward}
-use Rattle.views.specs.declared.ViewStep.{ViewStep}
+use Rattle.pieces.proofs.Joined.{goes_onward}
 
 -- the screen is one that a clear accepts, and the tree one that stands on it
 module _ {ram_length : ℕ} {view : View} (s : Shows ram_length view) where
@@ -50,80 +49,70 @@ module _ (kind : ℕ) (s : Screen) (ram : List ℕ) (a b : ℕ) (t : Tree) where
 
 module _ (regs : List ℕ) (cpu : Cpu) (view : View) (memory ram : List ℕ) (w : ℕ) where
   abbrev before : Machine
-  before = machine regs cpu view memory ram
+  before = machine regs cpu 0 view memory ram
 
   abbrev halt : ℕ
-  halt = word_halt current (length ram) (joined regs cpu view) w
-
-  abbrev after : List ℕ → ViewStep → List ℕ → Machine
-  after regs' next ram' = machine regs' next.cpu next.view memory ram'
-
-  pub view_stops : (n : ℕ) (next : ViewStep)
-      → next ≡ record { cpu = stopped n cpu; view = view }
-      → halt ≡ n
-      → n ≢ 0
-      → after regs next ram ≡ stepped before w
-  view_stops n next h e d =
-      ap (λ (t : ViewStep). after regs t ram) h ∙ stops regs cpu view memory ram w n (stopped n cpu) refl e d
+  halt = word_halt current (length ram) (joined regs cpu 0 view) w
 
   -- on to the next place
-  module _ (z : halt ≡ 0) (next : ViewStep) where
+  module _ (z : halt ≡ 0) (cpu' : Cpu) (hc : cpu' ≡ at (cpu.place + 1) cpu) where
     onward : (regs' : List ℕ) (view' : View) (ram' : List ℕ)
         → is_jump (opcode w) ≡ false
-        → effect before w ≡ machine regs' cpu view' memory ram'
-        → next ≡ record { cpu = at (cpu.place + 1) cpu; view = view' }
-        → after regs' next ram' ≡ stepped before w
-    onward regs' view' ram' j e h =
-        ap (λ (t : ViewStep). after regs' t ram') h ∙ goes_onward regs cpu view memory ram w regs' cpu view' memory ram' z j e
+        → effect before w ≡ machine regs' cpu 0 view' memory ram'
+        → machine regs' cpu' 0 view' memory ram' ≡ stepped before w
+    onward regs' view' ram' j e =
+        ap (λ (c : Cpu). machine regs' c 0 view' memory ram') hc ∙ goes_onward regs cpu view memory ram w regs' cpu view' memory ram' z j e
 
-    pub sets_screen : opcode w ≡ SCRSET
-        → next ≡ record { cpu = at (cpu.place + 1) cpu; view = screened (screen_set regs w) view }
-        → after regs next ram ≡ stepped before w
+    pub sets_screen : (view' : View)
+        → opcode w ≡ SCRSET
+        → view' ≡ screened (screen_set regs w) view
+        → machine regs cpu' 0 view' memory ram ≡ stepped before w
     unfolding after_scrset with_screen
-    sets_screen e h = onward regs _ ram (ap is_jump e) (effect-SCRSET before w e) h
+    sets_screen view' e h =
+        onward regs view' ram (ap is_jump e) (effect-SCRSET before w e ∙ ap (λ (v : View). machine regs cpu 0 v memory ram) (sym h))
 
     pub clears : (ram' : List ℕ)
         → opcode w ≡ CLS
         → ram' ≡ cleared view.screen (low_half (in_r1 regs w)) (low_half (in_r2 regs w)) ram
-        → next ≡ record { cpu = at (cpu.place + 1) cpu; view = view }
-        → after regs next ram' ≡ stepped before w
+        → machine regs cpu' 0 view memory ram' ≡ stepped before w
     unfolding after_cls
-    clears ram' e m h =
-        onward regs view ram' (ap is_jump e) (effect-CLS before w e ∙ ap (λ l. machine regs cpu view memory l) (sym m)) h
+    clears ram' e m =
+        onward regs view ram' (ap is_jump e) (effect-CLS before w e ∙ ap (λ l. machine regs cpu 0 view memory l) (sym m))
 
-    pub plants : opcode w ≡ TREESET
-        → next ≡ record { cpu = at (cpu.place + 1) cpu; view = treed (tree_set (in_r1 regs w) (in_r2 regs w) (in_r3 regs w)) view }
-        → after regs next ram ≡ stepped before w
+    pub plants : (view' : View)
+        → opcode w ≡ TREESET
+        → view' ≡ treed (tree_set (in_r1 regs w) (in_r2 regs w) (in_r3 regs w)) view
+        → machine regs cpu' 0 view' memory ram ≡ stepped before w
     unfolding after_treeset with_tree
-    plants e h = onward regs _ ram (ap is_jump e) (effect-TREESET before w e) h
+    plants view' e h =
+        onward regs view' ram (ap is_jump e) (effect-TREESET before w e ∙ ap (λ (v : View). machine regs cpu 0 v memory ram) (sym h))
 
-    -- TREEIN and TREEVAL: r1 and the tree
-    module _ (regs' : List ℕ) (tree' : Tree)
-        (h : (regs' ≡ with_register regs (r1 w) (past_leaves (in_r1 regs w) (in_r2 regs w)))
-        × (next ≡ record { cpu = at (cpu.place + 1) cpu; view = treed tree' view })) where
+    -- TREEIN and TREEVAL: r1 and the tree, which stays planted
+    module _ (planted : view.planted ≡ true) (regs' : List ℕ) (tree' : Tree)
+        (h : regs' ≡ with_register regs (r1 w) (past_leaves (in_r1 regs w) (in_r2 regs w))) where
+      abbrev grown_view : View
+      grown_view = record { shown = view.shown; planted = view.planted; screen = view.screen; tree = tree' }
+
       pub grows_in : opcode w ≡ TREEIN
           → tree' ≡ tree_in (in_r1 regs w) (in_r2 regs w) view.tree
-          → after regs' next ram ≡ stepped before w
+          → machine regs' cpu' 0 grown_view memory ram ≡ stepped before w
       unfolding after_treein grown with_tree with_registers
       grows_in e t =
-          onward regs' _ ram (ap is_jump e)
-          (effect-TREEIN before w e ∙ ap₂ (λ l u. machine l cpu (treed u view) memory ram) (sym h.0) (sym t))
-          h.1
+          onward regs' grown_view ram (ap is_jump e)
+          (effect-TREEIN before w e ∙ rw (planted, h, t))
 
       pub grows_val : opcode w ≡ TREEVAL
           → tree' ≡ tree_val (imm w) view.screen ram (in_r1 regs w) (in_r2 regs w) view.tree
-          → after regs' next ram ≡ stepped before w
+          → machine regs' cpu' 0 grown_view memory ram ≡ stepped before w
       unfolding after_treeval grown with_tree with_registers
       grows_val e t =
-          onward regs' _ ram (ap is_jump e)
-          (effect-TREEVAL before w e ∙ ap₂ (λ l u. machine l cpu (treed u view) memory ram) (sym h.0) (sym t))
-          h.1
+          onward regs' grown_view ram (ap is_jump e)
+          (effect-TREEVAL before w e ∙ rw (planted, h, t))
 
     pub puts_tree : (ram' : List ℕ)
         → opcode w ≡ TREEPUT
         → ram' ≡ tree_put view.screen view.tree ram
-        → next ≡ record { cpu = at (cpu.place + 1) cpu; view = view }
-        → after regs next ram' ≡ stepped before w
+        → machine regs cpu' 0 view memory ram' ≡ stepped before w
     unfolding after_treeput
-    puts_tree ram' e m h =
-        onward regs view ram' (ap is_jump e) (effect-TREEPUT before w e ∙ ap (λ l. machine regs cpu view memory l) (sym m)) h
+    puts_tree ram' e m =
+        onward regs view ram' (ap is_jump e) (effect-TREEPUT before w e ∙ ap (λ l. machine regs cpu 0 view memory l) (sym m))

@@ -1,72 +1,49 @@
 // The instructions from SCRSET on, which alone touch the screen and the tree.
 #![tactic(auto)]
 
-ghost use Rattle.std.specs.Prelude.{◌+◌, ◌<◌, ◌≡◌, length};
+ghost use Rattle.std.specs.Prelude.{◌+◌, ◌<◌, ◌≡◌, length, ltb, OnErr, OnOk};
+ghost use Rattle.rules.specs.Folds.{choose};
+ghost use Rattle.instructions.specs.Answers.{halt_of};
 ghost use Rattle.instructions.specs.Opcodes.{SCRSET, CLS, TREESET, TREEIN, TREEVAL, TREEPUT};
 ghost use Rattle.instructions.specs.Words.{in_r1, in_r2, opcode, r1, with_register};
 ghost use Rattle.instructions.specs.Arithmetic.{low_half};
-ghost use Rattle.instructions.specs.Tree.{past_leaves};
+ghost use Rattle.instructions.specs.Tree.{past_leaves, tree_val};
 ghost use Rattle.instructions.specs.Halts.{screen_set};
-ghost use Rattle.pieces.specs.Pieces.{at, stopped, treed};
-ghost use Rattle.pieces.specs.Steps.{Going, Shows, TreeSteps, ViewSteps, viewing};
+ghost use Rattle.tree.specs.Leaves.{Placed};
+ghost use Rattle.pieces.specs.Pieces.{at};
+ghost use Rattle.pieces.specs.Steps.{Shows, TreeSteps, ViewSteps, viewing, viewing_after};
 
 use alu::fields::{imm, r1};
-use instructions::Tree;
-use leaves::{past_leaves, refuses_place, tree_colour, tree_in, tree_set};
-use pieces::registers::{in_r1, in_r2, in_r3, put};
-use pieces::state::{Cpu, View, onward, screened, stopped, treed};
+use instructions::{Halt, Tree};
+use leaves::{Channel, past_leaves, refuses_place, tree_colour, tree_in, tree_set};
+use pieces::registers::Registers;
+use pieces::state::{Cpu, View};
 use rules::Screen;
 use screen::clear::clear;
 use screen::sizes::sound;
 use tree::{tree_depth, tree_put};
 
-// The halts.
-const NO_SCREEN: u32 = 17;
-
-const NO_TREE: u32 = 14;
-
-// What a step leaves of the pieces by value.
-#[derive(Clone, Copy)]
-pub struct ViewStep {
-    pub cpu: Cpu,
-    pub view: View,
-}
-
-// A halt leaves the view.
-pub fn stop(cpu: Cpu, view: View, number: u32) -> ViewStep
-    ensures { result ≡ record { cpu = stopped number cpu; view = view } }
-{
-    let at = stopped(cpu, number);
-    ViewStep { cpu: at, view }
-}
-
-fn go(cpu: Cpu, view: View) -> ViewStep
-    requires { cpu.place < 1024 }
-    ensures { result ≡ record { cpu = at (cpu.place + 1) cpu; view = view } }
-{
-    let at = onward(cpu);
-    ViewStep { cpu: at, view }
-}
-
-fn screen_set(regs: &[u32; 32], w: u32) -> Screen
-    ensures { result ≡ screen_set regs.now w }
+fn screen_set(regs: &Registers, w: u32) -> Screen
+    ensures { result ≡ screen_set regs.now.words w }
 {
     Screen {
-        colour: in_r1(regs, w),
-        depth: in_r2(regs, w),
+        colour: regs.in_r1(w),
+        depth: regs.in_r2(w),
         size: imm(w),
     }
 }
 
-pub fn do_scrset(w: u32, regs: &[u32; 32], cpu: Cpu, view: View, ram: &[u8]) -> ViewStep
-    requires { (opcode w ≡ SCRSET) × (cpu.place < 1024) }
-    ensures { ViewSteps w (viewing regs.now cpu view ram.now) (viewing regs.now result.cpu result.view ram.now) }
+pub fn do_scrset(w: u32, regs: &Registers, cpu: Cpu, view: &mut View, ram: &[u8]) -> Result<Cpu, Halt>
+    requires opcode { opcode w ≡ SCRSET }
+    requires inside { cpu.place < 1024 }
+    ensures { ViewSteps w (viewing regs.now.words cpu view.old ram.now) (viewing_after regs.now.words cpu result view.new ram.now) }
 {
     let screen = screen_set(regs, w);
     if !sound(ram.len(), screen) {
-        return stop(cpu, view, NO_SCREEN);
+        return Err(Halt::NoScreen);
     }
-    go(cpu, screened(view, screen))
+    view.show(screen);
+    Ok(cpu.onward())
 }
 
 fn low_half(v: u32) -> u16
@@ -75,93 +52,102 @@ fn low_half(v: u32) -> u16
     (v % 65536) as u16
 }
 
-pub fn do_cls(w: u32, regs: &[u32; 32], cpu: Cpu, view: View, ram: &mut [u8]) -> ViewStep
-    requires { (opcode w ≡ CLS) × (cpu.place < 1024) × Shows (length ram.old) view }
-    ensures { ViewSteps w (viewing regs.now cpu view ram.old) (viewing regs.now result.cpu result.view ram.new) }
+// The state's screen is sound, so the clear is not refused.
+pub fn do_cls(w: u32, regs: &Registers, cpu: Cpu, view: &View, ram: &mut [u8]) -> Result<Cpu, Halt>
+    requires opcode { opcode w ≡ CLS }
+    requires inside { cpu.place < 1024 }
+    requires shows { Shows (length ram.old) view.now }
+    ensures { ViewSteps w (viewing regs.now.words cpu view.now ram.old) (viewing_after regs.now.words cpu result view.now ram.new) }
 {
-    let screen = view.screen;
     if !view.shown {
-        return stop(cpu, view, NO_SCREEN);
+        return Err(Halt::NoScreen);
     }
-    clear(
-        ram,
-        screen,
-        low_half(in_r1(regs, w)),
-        low_half(in_r2(regs, w)),
-    );
-    go(cpu, view)
+    let colour = low_half(regs.in_r1(w));
+    let depth = low_half(regs.in_r2(w));
+    let _ = clear(ram, view.screen, colour, depth);
+    Ok(cpu.onward())
 }
 
 // The place is judged only where there is a screen.
-pub fn do_treeset(w: u32, regs: &[u32; 32], cpu: Cpu, view: View) -> ViewStep
-    requires { (opcode w ≡ TREESET) × (cpu.place < 1024) }
-    ensures { TreeSteps w (viewing regs.now cpu view) (viewing regs.now result.cpu result.view) }
+pub fn do_treeset(w: u32, regs: &Registers, cpu: Cpu, view: &mut View) -> Result<Cpu, Halt>
+    requires opcode { opcode w ≡ TREESET }
+    requires inside { cpu.place < 1024 }
+    ensures { TreeSteps w (viewing regs.now.words cpu view.old) (viewing_after regs.now.words cpu result view.new) }
 {
-    let screen = view.screen;
-    let column = in_r1(regs, w);
-    let row = in_r2(regs, w);
     if !view.shown {
-        return stop(cpu, view, NO_SCREEN);
+        return Err(Halt::NoScreen);
     }
-    if refuses_place(screen, column, row) {
-        return stop(cpu, view, NO_TREE);
+    let column = regs.in_r1(w);
+    let row = regs.in_r2(w);
+    if refuses_place(view.screen, column, row) {
+        return Err(Halt::NoTree);
     }
-    let tree = tree_set(column, row, in_r3(regs, w));
-    go(cpu, treed(view, tree))
+    view.plant(tree_set(column, row, regs.in_r3(w)));
+    Ok(cpu.onward())
 }
 
-// TREEIN and TREEVAL with the tree that they leave, which was worked out of the registers as they still are here.
-fn grow(w: u32, regs: &mut [u32; 32], cpu: Cpu, view: View, tree: Tree) -> ViewStep
-    requires { Going regs.old cpu }
-    ensures { (regs.new ≡ with_register regs.old (r1 w) (past_leaves (in_r1 regs.old w) (in_r2 regs.old w))) × (result ≡ record { cpu = at (cpu.place + 1) cpu; view = treed tree view }) }
+// r1 after TREEIN and TREEVAL.
+fn put_past(w: u32, regs: &mut Registers)
+    ensures { regs.new.words ≡ with_register regs.old.words (r1 w) (past_leaves (in_r1 regs.old.words w) (in_r2 regs.old.words w)) }
 {
-    let past = past_leaves(in_r1(regs, w), in_r2(regs, w));
-    put(regs, r1(w), past);
-    go(cpu, treed(view, tree))
+    let past = past_leaves(regs.in_r1(w), regs.in_r2(w));
+    regs.put(r1(w), past);
 }
 
-pub fn do_treein(w: u32, regs: &mut [u32; 32], cpu: Cpu, view: View) -> ViewStep
-    requires { (opcode w ≡ TREEIN) × Going regs.old cpu }
-    ensures { TreeSteps w (viewing regs.old cpu view) (viewing regs.new result.cpu result.view) }
+pub fn do_treein(w: u32, regs: &mut Registers, cpu: Cpu, view: &mut View) -> Result<Cpu, Halt>
+    requires opcode { opcode w ≡ TREEIN }
+    requires inside { cpu.place < 1024 }
+    ensures { TreeSteps w (viewing regs.old.words cpu view.old) (viewing_after regs.new.words cpu result view.new) }
 {
-    let tree = view.tree;
     if !view.planted {
-        return stop(cpu, view, NO_TREE);
+        return Err(Halt::NoTree);
     }
-    let next = tree_in(tree, in_r1(regs, w), in_r2(regs, w));
-    grow(w, regs, cpu, view, next)
+    tree_in(&mut view.tree, regs.in_r1(w), regs.in_r2(w));
+    put_past(w, regs);
+    Ok(cpu.onward())
 }
 
-// A depth at 0, else red, green or blue. The two end apart, so that no tree is chosen between.
-pub fn do_treeval(w: u32, regs: &mut [u32; 32], cpu: Cpu, view: View, ram: &[u8]) -> ViewStep
-    requires { (opcode w ≡ TREEVAL) × Going regs.old cpu × Shows (length ram.now) view }
-    ensures { ViewSteps w (viewing regs.old cpu view ram.now) (viewing regs.new result.cpu result.view ram.now) }
+// A depth at 0, else red, green or blue.
+#[tactic(auto, unfolding(instructions::specs::Tree::tree_val))]
+fn tree_val(kind: u32, s: Screen, ram: &[u8], a: u32, b: u32, tree: &mut Tree) -> Result<(), Halt>
+    requires { Placed (length ram.now) s tree.old }
+    ensures halt { halt_of result ≡ choose (ltb 3 kind) 14 0 }
+    ensures ok { OnOk result (tree.new ≡ tree_val kind s ram.now a b tree.old) }
+    ensures err { OnErr result (tree.new ≡ tree.old) }
 {
-    let screen = view.screen;
-    let tree = view.tree;
-    let kind = imm(w);
-    if !view.planted | (3 < kind) {
-        return stop(cpu, view, NO_TREE);
+    match kind {
+        0 => tree_depth(ram, s, tree, a, b),
+        1 => tree_colour(tree, Channel::Red, a, b),
+        2 => tree_colour(tree, Channel::Green, a, b),
+        3 => tree_colour(tree, Channel::Blue, a, b),
+        _ => return Err(Halt::NoTree),
     }
-    let a = in_r1(regs, w);
-    let b = in_r2(regs, w);
-    if kind == 0 {
-        let next = tree_depth(ram, screen, tree, a, b);
-        return grow(w, regs, cpu, view, next);
-    }
-    let next = tree_colour(tree, kind, a, b);
-    grow(w, regs, cpu, view, next)
+    Ok(())
 }
 
-pub fn do_treeput(w: u32, regs: &[u32; 32], cpu: Cpu, view: View, ram: &mut [u8]) -> ViewStep
-    requires { (opcode w ≡ TREEPUT) × (cpu.place < 1024) × Shows (length ram.old) view }
-    ensures { ViewSteps w (viewing regs.now cpu view ram.old) (viewing regs.now result.cpu result.view ram.new) }
+pub fn do_treeval(w: u32, regs: &mut Registers, cpu: Cpu, view: &mut View, ram: &[u8]) -> Result<Cpu, Halt>
+    requires opcode { opcode w ≡ TREEVAL }
+    requires inside { cpu.place < 1024 }
+    requires shows { Shows (length ram.now) view.old }
+    ensures { ViewSteps w (viewing regs.old.words cpu view.old ram.now) (viewing_after regs.new.words cpu result view.new ram.now) }
 {
-    let screen = view.screen;
-    let tree = view.tree;
     if !view.planted {
-        return stop(cpu, view, NO_TREE);
+        return Err(Halt::NoTree);
     }
-    tree_put(ram, screen, tree);
-    go(cpu, view)
+    tree_val(imm(w), view.screen, ram, regs.in_r1(w), regs.in_r2(w), &mut view.tree)?;
+    put_past(w, regs);
+    Ok(cpu.onward())
+}
+
+pub fn do_treeput(w: u32, regs: &Registers, cpu: Cpu, view: &View, ram: &mut [u8]) -> Result<Cpu, Halt>
+    requires opcode { opcode w ≡ TREEPUT }
+    requires inside { cpu.place < 1024 }
+    requires shows { Shows (length ram.old) view.now }
+    ensures { ViewSteps w (viewing regs.now.words cpu view.now ram.old) (viewing_after regs.now.words cpu result view.now ram.new) }
+{
+    if !view.planted {
+        return Err(Halt::NoTree);
+    }
+    tree_put(ram, view.screen, &view.tree);
+    Ok(cpu.onward())
 }

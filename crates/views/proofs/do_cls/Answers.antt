@@ -2,38 +2,36 @@
 use Prim.Native.Nat.{ℕ}
 use mathlib.Core.Path.{◌≡◌, ◌∙◌, ap, ap₂}
 use mathlib.Core.Bool.{true}
-use native.Mathlib.Omega.{arith}
 use lib.ListN.{length}
-use borrow.Author.Tests.{not-false}
 use Rattle.rules.specs.Calls.{cleared}
+use Rattle.instructions.specs.declared.Halt.TheVariants.{NoScreen}
 use Rattle.instructions.specs.Arithmetic.{low_half}
 use Rattle.pieces.specs.Pieces.{joined}
 use Rattle.pieces.proofs.Cases.{case-CLS}
-use Rattle.views.proofs.Viewed.{accepts, view_stops, clears}
+use Rattle.pieces.proofs.Joined.{stops}
+use Rattle.views.proofs.Viewed.{accepts, clears}
 use Rattle.views.proofs.do_cls.Goals as goal
 
 pub returns-then-not-view : goal.returns-then-not-view
 returns-then-not-view c =
     λ memory.
     let a = c.args in
-    view_stops a.regs.now a.cpu a.view memory a.ram.now a.w 17 _ c.stop.ensures
-    (case-CLS (length a.ram.now) (joined a.regs.now a.cpu a.view) a.w c.requires.0 ∙ rw c.if-not-view.true)
-    (λ q. omega (arith, q))
+    stops a.regs.now.words a.cpu a.view.now memory a.ram.now a.w NoScreen
+    (case-CLS (length a.ram.now) (joined a.regs.now.words a.cpu 0 a.view.now) a.w c.requires.opcode ∙ rw c.if-not-view.true)
 
 pub returns : goal.returns
 returns c =
     λ memory.
     let a = c.args in
-    let u : ℕ = c.low_half.result in
-    let v : ℕ = c.low_half-2.result in
-    let shown : a.view.shown ≡ true = not-false a.view.shown c.if-not-view.false in
-    let m : c.clear.new.ram ≡ cleared a.view.screen u v a.ram.now =
-    rw (accepts c.requires.2 shown) at c.clear.ensures.leaves in
-    clears a.regs.now a.cpu a.view memory a.ram.now a.w
-    (case-CLS (length a.ram.now) (joined a.regs.now a.cpu a.view) a.w c.requires.0 ∙ rw shown)
-    _ _ c.requires.0
+    let u : ℕ = c.low_half-colour.result in
+    let v : ℕ = c.low_half-depth.result in
+    let shown : a.view.now.shown ≡ true = c.if-not-view.false in
+    let m : c.clear.new.ram ≡ cleared a.view.now.screen u v a.ram.now =
+    rw (accepts c.requires.shows shown) at c.clear.ensures.leaves in
+    clears a.regs.now.words a.cpu a.view.now memory a.ram.now a.w
+    (case-CLS (length a.ram.now) (joined a.regs.now.words a.cpu 0 a.view.now) a.w c.requires.opcode ∙ rw shown)
+    _ c.onward.ensures _ c.requires.opcode
     (m
-    ∙ ap₂ (λ (x y : ℕ). cleared a.view.screen x y a.ram.now)
-    (c.low_half.ensures ∙ ap low_half c.in_r1.ensures)
-    (c.low_half-2.ensures ∙ ap low_half c.in_r2.ensures))
-    c.go.ensures
+    ∙ ap₂ (λ (x y : ℕ). cleared a.view.now.screen x y a.ram.now)
+    (c.low_half-colour.ensures ∙ ap low_half c.in_r1.ensures)
+    (c.low_half-depth.ensures ∙ ap low_half c.in_r2.ensures))
