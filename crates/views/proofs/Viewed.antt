@@ -2,12 +2,16 @@
 -- screen and tree.
 use Prim.Native.Nat.{ℕ, ◌+◌}
 use mathlib.Core.Path.{◌≡◌, sym, ◌∙◌, ap}
-use mathlib.Core.Logic.{◌≢◌}
 use mathlib.Core.Bool.{true, false}
 use mathlib.Core.List.{List}
 use lib.ListN.{length}
-use borrow.Author.Tests.{le-ltb, ne_eqb}
-use Rattle.rules.specs.declared.Screen.{Screen}
+use borrow.Author.Tests.{le-ltb}
+use Rattle.std.proofs.Common.{rules, arith, Result, Ok, Err}
+use Rattle.std.specs.Prelude.{IsOk}
+use Rattle.rules.specs.declared.Refusal.{Refusal}
+use Rattle.rules.specs.declared.Refusal.TheVariants.{ProgramTooLong, WrongDataMemory, RamTooLong, IllFormedState, UnsoundScreen}
+use Rattle.rules.specs.declared.Refusal.TheVariants.{VertexOutOfRange, EdgeTooLarge, NoSuchRow, NoPlane, PanelOutOfRange}
+use Rattle.rules.specs.Answers.{number_of}
 use Rattle.rules.specs.Sizes.{ram_limit}
 use Rattle.rules.specs.Numbers.{screen_number}
 use Rattle.rules.specs.Calls.{cleared}
@@ -16,7 +20,7 @@ use Rattle.instructions.specs.Opcodes.{current, SCRSET, CLS, TREESET, TREEIN, TR
 use Rattle.instructions.specs.Words.{opcode, r1, imm, in_r1, in_r2, in_r3, with_register}
 use Rattle.instructions.specs.Arithmetic.{low_half}
 use Rattle.instructions.specs.Jumps.{is_jump}
-use Rattle.instructions.specs.Tree.{tree_set, tree_in, tree_depth, tree_colour, tree_val, tree_put, past_leaves}
+use Rattle.instructions.specs.Tree.{tree_set, tree_in, tree_val, tree_put, past_leaves}
 use Rattle.instructions.specs.Halts.{screen_set, word_halt}
 use Rattle.instructions.specs.Step.{Machine, with_registers, with_screen, with_tree, after_scrset, after_cls, after_treeset, effect}
 use Rattle.instructions.specs.Step.{grown, after_treein, after_treeval, after_treeput}
@@ -37,15 +41,19 @@ module _ {ram_length : ℕ} {view : View} (s : Shows ram_length view) where
   pub placed : view.planted ≡ true → Placed ram_length view.screen view.tree
   placed h = record { is_sound = s.screen_sound (s.tree_shown h); accepted = s.tree_place h }
 
--- TREEVAL by its imm: a depth at 0, else a colour
-module _ (kind : ℕ) (s : Screen) (ram : List ℕ) (a b : ℕ) (t : Tree) where
-  pub val_depth : kind ≡ 0 → tree_val kind s ram a b t ≡ tree_depth s ram a b t
-  unfolding tree_val
-  val_depth e = rw e
-
-  pub val_colour : kind ≢ 0 → tree_val kind s ram a b t ≡ tree_colour kind a b t
-  unfolding tree_val
-  val_colour d = rw (ne_eqb kind 0 d)
+-- a call that no number refuses is done
+pub is_done : (answer : Result (Unit {0}) Refusal) → number_of answer ≡ 0 → IsOk answer
+is_done (Ok _) e = search rules
+is_done (Err ProgramTooLong) e = absurd (omega (arith, e))
+is_done (Err WrongDataMemory) e = absurd (omega (arith, e))
+is_done (Err RamTooLong) e = absurd (omega (arith, e))
+is_done (Err IllFormedState) e = absurd (omega (arith, e))
+is_done (Err UnsoundScreen) e = absurd (omega (arith, e))
+is_done (Err VertexOutOfRange) e = absurd (omega (arith, e))
+is_done (Err EdgeTooLarge) e = absurd (omega (arith, e))
+is_done (Err NoSuchRow) e = absurd (omega (arith, e))
+is_done (Err NoPlane) e = absurd (omega (arith, e))
+is_done (Err PanelOutOfRange) e = absurd (omega (arith, e))
 
 module _ (regs : List ℕ) (cpu : Cpu) (view : View) (memory ram : List ℕ) (w : ℕ) where
   abbrev before : Machine

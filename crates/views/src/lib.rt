@@ -1,9 +1,9 @@
 // The instructions from SCRSET on, which alone touch the screen and the tree.
 #![tactic(auto)]
 
-ghost use Rattle.std.specs.Prelude.{◌+◌, ◌<◌, ◌≡◌, length, ltb, OnErr, OnOk};
+ghost use Rattle.std.specs.Prelude.{◌+◌, ◌<◌, ◌≡◌, length, ltb, true, false, IfErr, OnErr, OnOk};
 ghost use Rattle.rules.specs.Folds.{choose};
-ghost use Rattle.instructions.specs.Answers.{halt_of};
+ghost use Rattle.instructions.specs.Answers.{halt_of, number_of_halt};
 ghost use Rattle.instructions.specs.Opcodes.{SCRSET, CLS, TREESET, TREEIN, TREEVAL, TREEPUT};
 ghost use Rattle.instructions.specs.Words.{in_r1, in_r2, opcode, r1, with_register};
 ghost use Rattle.instructions.specs.Arithmetic.{low_half};
@@ -23,6 +23,28 @@ use screen::clear::clear;
 use screen::sizes::sound;
 use tree::{tree_depth, tree_put};
 
+// CLS and TREESET want a screen.
+fn want_screen(view: &View) -> Result<(), Halt>
+    ensures ok { OnOk result (view.now.shown ≡ true) }
+    ensures err { IfErr result (λ halt. (number_of_halt halt ≡ 17) × (view.now.shown ≡ false)) }
+{
+    if view.shown {
+        return Ok(());
+    }
+    Err(Halt::NoScreen)
+}
+
+// TREEIN, TREEVAL and TREEPUT want a tree.
+fn want_tree(view: &View) -> Result<(), Halt>
+    ensures ok { OnOk result (view.now.planted ≡ true) }
+    ensures err { IfErr result (λ halt. (number_of_halt halt ≡ 14) × (view.now.planted ≡ false)) }
+{
+    if view.planted {
+        return Ok(());
+    }
+    Err(Halt::NoTree)
+}
+
 fn screen_set(regs: &Registers, w: u32) -> Screen
     ensures { result ≡ screen_set regs.now.words w }
 {
@@ -33,7 +55,13 @@ fn screen_set(regs: &Registers, w: u32) -> Screen
     }
 }
 
-pub fn do_scrset(w: u32, regs: &Registers, cpu: Cpu, view: &mut View, ram: &[u8]) -> Result<Cpu, Halt>
+pub fn do_scrset(
+    w: u32,
+    regs: &Registers,
+    cpu: Cpu,
+    view: &mut View,
+    ram: &[u8],
+) -> Result<Cpu, Halt>
     requires opcode { opcode w ≡ SCRSET }
     requires inside { cpu.place < 1024 }
     ensures { ViewSteps w (viewing regs.now.words cpu view.old ram.now) (viewing_after regs.now.words cpu result view.new ram.now) }
@@ -59,12 +87,10 @@ pub fn do_cls(w: u32, regs: &Registers, cpu: Cpu, view: &View, ram: &mut [u8]) -
     requires shows { Shows (length ram.old) view.now }
     ensures { ViewSteps w (viewing regs.now.words cpu view.now ram.old) (viewing_after regs.now.words cpu result view.now ram.new) }
 {
-    if !view.shown {
-        return Err(Halt::NoScreen);
-    }
+    want_screen(view)?;
     let colour = low_half(regs.in_r1(w));
     let depth = low_half(regs.in_r2(w));
-    let _ = clear(ram, view.screen, colour, depth);
+    clear(ram, view.screen, colour, depth).unwrap();
     Ok(cpu.onward())
 }
 
@@ -74,9 +100,7 @@ pub fn do_treeset(w: u32, regs: &Registers, cpu: Cpu, view: &mut View) -> Result
     requires inside { cpu.place < 1024 }
     ensures { TreeSteps w (viewing regs.now.words cpu view.old) (viewing_after regs.now.words cpu result view.new) }
 {
-    if !view.shown {
-        return Err(Halt::NoScreen);
-    }
+    want_screen(view)?;
     let column = regs.in_r1(w);
     let row = regs.in_r2(w);
     if refuses_place(view.screen, column, row) {
@@ -99,9 +123,7 @@ pub fn do_treein(w: u32, regs: &mut Registers, cpu: Cpu, view: &mut View) -> Res
     requires inside { cpu.place < 1024 }
     ensures { TreeSteps w (viewing regs.old.words cpu view.old) (viewing_after regs.new.words cpu result view.new) }
 {
-    if !view.planted {
-        return Err(Halt::NoTree);
-    }
+    want_tree(view)?;
     tree_in(&mut view.tree, regs.in_r1(w), regs.in_r2(w));
     put_past(w, regs);
     Ok(cpu.onward())
@@ -125,29 +147,44 @@ fn tree_val(kind: u32, s: Screen, ram: &[u8], a: u32, b: u32, tree: &mut Tree) -
     Ok(())
 }
 
-pub fn do_treeval(w: u32, regs: &mut Registers, cpu: Cpu, view: &mut View, ram: &[u8]) -> Result<Cpu, Halt>
+pub fn do_treeval(
+    w: u32,
+    regs: &mut Registers,
+    cpu: Cpu,
+    view: &mut View,
+    ram: &[u8],
+) -> Result<Cpu, Halt>
     requires opcode { opcode w ≡ TREEVAL }
     requires inside { cpu.place < 1024 }
     requires shows { Shows (length ram.now) view.old }
     ensures { ViewSteps w (viewing regs.old.words cpu view.old ram.now) (viewing_after regs.new.words cpu result view.new ram.now) }
 {
-    if !view.planted {
-        return Err(Halt::NoTree);
-    }
-    tree_val(imm(w), view.screen, ram, regs.in_r1(w), regs.in_r2(w), &mut view.tree)?;
+    want_tree(view)?;
+    tree_val(
+        imm(w),
+        view.screen,
+        ram,
+        regs.in_r1(w),
+        regs.in_r2(w),
+        &mut view.tree,
+    )?;
     put_past(w, regs);
     Ok(cpu.onward())
 }
 
-pub fn do_treeput(w: u32, regs: &Registers, cpu: Cpu, view: &View, ram: &mut [u8]) -> Result<Cpu, Halt>
+pub fn do_treeput(
+    w: u32,
+    regs: &Registers,
+    cpu: Cpu,
+    view: &View,
+    ram: &mut [u8],
+) -> Result<Cpu, Halt>
     requires opcode { opcode w ≡ TREEPUT }
     requires inside { cpu.place < 1024 }
     requires shows { Shows (length ram.old) view.now }
     ensures { ViewSteps w (viewing regs.now.words cpu view.now ram.old) (viewing_after regs.now.words cpu result view.now ram.new) }
 {
-    if !view.planted {
-        return Err(Halt::NoTree);
-    }
+    want_tree(view)?;
     tree_put(ram, view.screen, &view.tree);
     Ok(cpu.onward())
 }

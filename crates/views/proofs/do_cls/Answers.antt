@@ -1,23 +1,26 @@
 -- With no screen it is the halt 17; else the screen is sound by the state, so the clear is accepted, and fills it with the two low halves.
 use Prim.Native.Nat.{ℕ}
-use mathlib.Core.Path.{◌≡◌, ◌∙◌, ap, ap₂}
+use mathlib.Core.Path.{sym, ◌≡◌, ◌∙◌, ap, ap₂}
 use mathlib.Core.Bool.{true}
 use lib.ListN.{length}
 use Rattle.rules.specs.Calls.{cleared}
-use Rattle.instructions.specs.declared.Halt.TheVariants.{NoScreen}
 use Rattle.instructions.specs.Arithmetic.{low_half}
 use Rattle.pieces.specs.Pieces.{joined}
 use Rattle.pieces.proofs.Cases.{case-CLS}
-use Rattle.pieces.proofs.Joined.{stops}
-use Rattle.views.proofs.Viewed.{accepts, clears}
+use Rattle.pieces.proofs.Joined.{stops_with}
+use Rattle.views.proofs.Viewed.{accepts, is_done, clears}
 use Rattle.views.proofs.do_cls.Goals as goal
 
-pub returns-then-not-view : goal.returns-then-not-view
-returns-then-not-view c =
+pub returns-in_err-want_screen : goal.returns-in_err-want_screen
+returns-in_err-want_screen c =
     λ memory.
     let a = c.args in
-    stops a.regs.now.words a.cpu a.view.now memory a.ram.now a.w NoScreen
-    (case-CLS (length a.ram.now) (joined a.regs.now.words a.cpu 0 a.view.now) a.w c.requires.opcode ∙ rw c.if-not-view.true)
+    stops_with a.regs.now.words a.cpu a.view.now memory a.ram.now a.w _ _ c.from_residual.ensures.1
+    (case-CLS (length a.ram.now) (joined a.regs.now.words a.cpu 0 a.view.now) a.w c.requires.opcode ∙ rw c.in_err-want_screen.ensures.err.1 (sym c.in_err-want_screen.ensures.err.0))
+
+pub unwrap-requires : goal.unwrap-requires
+unwrap-requires c =
+    is_done _ (c.clear.ensures.answers ∙ accepts c.requires.shows c.in_ok-want_screen.ensures.ok)
 
 pub returns : goal.returns
 returns c =
@@ -25,7 +28,7 @@ returns c =
     let a = c.args in
     let u : ℕ = c.low_half-colour.result in
     let v : ℕ = c.low_half-depth.result in
-    let shown : a.view.now.shown ≡ true = c.if-not-view.false in
+    let shown : a.view.now.shown ≡ true = c.in_ok-want_screen.ensures.ok in
     let m : c.clear.new.ram ≡ cleared a.view.now.screen u v a.ram.now =
     rw (accepts c.requires.shows shown) at c.clear.ensures.leaves in
     clears a.regs.now.words a.cpu a.view.now memory a.ram.now a.w

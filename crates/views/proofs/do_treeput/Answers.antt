@@ -1,20 +1,19 @@
 -- With no tree it is the halt 14; else the tree stands on a sound screen by the state.
-use mathlib.Core.Path.{◌∙◌}
+use mathlib.Core.Path.{sym, ◌∙◌}
 use lib.ListN.{length}
-use Rattle.instructions.specs.declared.Halt.TheVariants.{NoTree}
 use Rattle.pieces.specs.Pieces.{joined}
 use Rattle.pieces.proofs.Cases.{case-TREEPUT}
-use Rattle.pieces.proofs.Joined.{stops}
+use Rattle.pieces.proofs.Joined.{stops_with}
 use Rattle.views.proofs.Viewed.{puts_tree}
 use Rattle.views.proofs.do_treeput.Goals as goal
 
-pub returns-then-not-view : goal.returns-then-not-view
-returns-then-not-view c =
+pub returns-in_err-want_tree : goal.returns-in_err-want_tree
+returns-in_err-want_tree c =
     λ memory.
     let a = c.args in
-    stops a.regs.now.words a.cpu a.view.now memory a.ram.now a.w NoTree
+    stops_with a.regs.now.words a.cpu a.view.now memory a.ram.now a.w _ _ c.from_residual.ensures.1
     (case-TREEPUT (length a.ram.now) (joined a.regs.now.words a.cpu 0 a.view.now) a.w c.requires.opcode
-    ∙ rw c.if-not-view.true)
+    ∙ rw c.in_err-want_tree.ensures.err.1 (sym c.in_err-want_tree.ensures.err.0))
 
 pub returns : goal.returns
 returns c =
@@ -22,5 +21,5 @@ returns c =
     let a = c.args in
     puts_tree a.regs.now.words a.cpu a.view.now memory a.ram.now a.w
     (case-TREEPUT (length a.ram.now) (joined a.regs.now.words a.cpu 0 a.view.now) a.w c.requires.opcode
-    ∙ rw c.if-not-view.false)
+    ∙ rw c.in_ok-want_tree.ensures.ok)
     _ c.onward.ensures _ c.requires.opcode c.tree_put.ensures

@@ -3,22 +3,22 @@ use mathlib.Core.Path.{◌≡◌, sym, ◌∙◌, ap, ap₂}
 use mathlib.Core.Bool.{Bool}
 use lib.ListN.{length}
 use Rattle.rules.specs.Folds.{choose}
-use Rattle.instructions.specs.declared.Halt.TheVariants.{NoScreen, NoTree}
+use Rattle.instructions.specs.declared.Halt.TheVariants.{NoTree}
 use Rattle.instructions.specs.Words.{in_r1, in_r2}
 use Rattle.instructions.specs.Tree.{refuses_place}
 use Rattle.pieces.specs.Pieces.{joined}
 use Rattle.pieces.proofs.Cases.{case-TREESET}
-use Rattle.pieces.proofs.Joined.{stops}
+use Rattle.pieces.proofs.Joined.{stops, stops_with}
 use Rattle.views.proofs.Viewed.{plants}
 use Rattle.views.proofs.do_treeset.Goals.{After-refuses_place}
 use Rattle.views.proofs.do_treeset.Goals as goal
 
-pub returns-then-not-view : goal.returns-then-not-view
-returns-then-not-view c =
+pub returns-in_err-want_screen : goal.returns-in_err-want_screen
+returns-in_err-want_screen c =
     λ ram memory.
     let a = c.args in
-    stops a.regs.now.words a.cpu a.view.now memory ram a.w NoScreen
-    (case-TREESET (length ram) (joined a.regs.now.words a.cpu 0 a.view.now) a.w c.requires.opcode ∙ rw c.if-not-view.true)
+    stops_with a.regs.now.words a.cpu a.view.now memory ram a.w _ _ c.from_residual.ensures.1
+    (case-TREESET (length ram) (joined a.regs.now.words a.cpu 0 a.view.now) a.w c.requires.opcode ∙ rw c.in_err-want_screen.ensures.err.1 (sym c.in_err-want_screen.ensures.err.0))
 
 -- the test is the definition's, of the place that the registers give
 is_refused : (c : After-refuses_place)
@@ -33,7 +33,7 @@ returns-then-refuses_place c =
     let a = c.args in
     stops a.regs.now.words a.cpu a.view.now memory ram a.w NoTree
     (case-TREESET (length ram) (joined a.regs.now.words a.cpu 0 a.view.now) a.w c.requires.opcode
-    ∙ rw c.if-not-view.false (ap (λ (t : Bool). choose t 14 0) (is_refused (goal.at.returns-then-refuses_place c).After-refuses_place ∙ c.if-refuses_place.true)))
+    ∙ rw c.in_ok-want_screen.ensures.ok (ap (λ (t : Bool). choose t 14 0) (is_refused (goal.at.returns-then-refuses_place c).After-refuses_place ∙ c.if-refuses_place.true)))
 
 pub returns : goal.returns
 returns c =
@@ -41,7 +41,7 @@ returns c =
     let a = c.args in
     plants a.regs.now.words a.cpu a.view.now memory ram a.w
     (case-TREESET (length ram) (joined a.regs.now.words a.cpu 0 a.view.now) a.w c.requires.opcode
-    ∙ rw c.if-not-view.false (ap (λ (t : Bool). choose t 14 0) (is_refused (goal.at.returns c).After-refuses_place ∙ c.if-refuses_place.false)))
+    ∙ rw c.in_ok-want_screen.ensures.ok (ap (λ (t : Bool). choose t 14 0) (is_refused (goal.at.returns c).After-refuses_place ∙ c.if-refuses_place.false)))
     _ c.onward.ensures _ c.requires.opcode
     (c.plant.ensures
     ∙ rw c.tree_set.ensures

@@ -4,24 +4,23 @@ use mathlib.Core.Path.{◌≡◌, sym, ◌∙◌, ap, ap₂}
 use lib.ListN.{length}
 use lib.Dec.{ltb}
 use Rattle.rules.specs.Folds.{choose}
-use Rattle.instructions.specs.declared.Halt.TheVariants.{NoTree}
 use Rattle.instructions.specs.Opcodes.{current}
 use Rattle.instructions.specs.Words.{imm}
 use Rattle.instructions.specs.Tree.{tree_val}
 use Rattle.instructions.specs.Halts.{word_halt}
 use Rattle.pieces.specs.Pieces.{joined}
 use Rattle.pieces.proofs.Cases.{case-TREEVAL}
-use Rattle.pieces.proofs.Joined.{stops, stops_with}
+use Rattle.pieces.proofs.Joined.{stops_with}
 use Rattle.views.proofs.Viewed.{grows_val}
 use Rattle.views.proofs.do_treeval.Goals.{After-tree_val}
 use Rattle.views.proofs.do_treeval.Goals as goal
 
-pub returns-then-not-view : goal.returns-then-not-view
-returns-then-not-view c =
+pub returns-in_err-want_tree : goal.returns-in_err-want_tree
+returns-in_err-want_tree c =
     λ memory.
     let a = c.args in
-    stops a.regs.now.words a.cpu a.view.now memory a.ram.now a.w NoTree
-    (case-TREEVAL (length a.ram.now) (joined a.regs.now.words a.cpu 0 a.view.now) a.w c.requires.opcode ∙ rw c.if-not-view.true)
+    stops_with a.regs.now.words a.cpu a.view.now memory a.ram.now a.w _ _ c.from_residual.ensures.1
+    (case-TREEVAL (length a.ram.now) (joined a.regs.now.words a.cpu 0 a.view.now) a.w c.requires.opcode ∙ rw c.in_err-want_tree.ensures.err.1 (sym c.in_err-want_tree.ensures.err.0))
 
 -- where there is a tree, the halt goes by the imm that the code reads
 halt_is : (c : After-tree_val)
@@ -30,14 +29,14 @@ halt_is : (c : After-tree_val)
 halt_is c =
     let a = c.args in
     case-TREEVAL (length a.ram.now) (joined a.regs.now.words a.cpu 0 a.view.now) a.w c.requires.opcode
-    ∙ rw c.if-not-view.false (ap (λ (i : ℕ). choose (ltb 3 i) 14 0) (sym c.imm.ensures))
+    ∙ rw c.in_ok-want_tree.ensures.ok (ap (λ (i : ℕ). choose (ltb 3 i) 14 0) (sym c.imm.ensures))
 
 pub returns-in_err-tree_val : goal.returns-in_err-tree_val
 returns-in_err-tree_val c =
     λ memory.
     let a = c.args in
     rw c.in_err-tree_val.ensures.err
-    (stops_with a.regs.now.words a.cpu a.view.now memory a.ram.now a.w _ _ c.from_residual.ensures.1
+    (stops_with a.regs.now.words a.cpu a.view.now memory a.ram.now a.w _ _ c.from_residual-in_err-tree_val.ensures.1
     (halt_is (goal.at.returns-in_err-tree_val c).After-tree_val ∙ sym c.in_err-tree_val.ensures.halt))
 
 pub returns : goal.returns
@@ -46,7 +45,7 @@ returns c =
     let a = c.args in
     grows_val a.regs.now.words a.cpu a.view.now memory a.ram.now a.w
     (halt_is (goal.at.returns c).After-tree_val ∙ sym c.in_ok-tree_val.ensures.halt)
-    _ c.onward.ensures c.if-not-view.false _ _ c.put_past.ensures c.requires.opcode
+    _ c.onward.ensures c.in_ok-want_tree.ensures.ok _ _ c.put_past.ensures c.requires.opcode
     (c.in_ok-tree_val.ensures.ok
     ∙ ap (λ (i : ℕ). tree_val i a.view.now.screen a.ram.now c.in_r1.result c.in_r2.result a.view.now.tree) c.imm.ensures
     ∙ ap₂ (λ (u v : ℕ). tree_val (imm a.w) a.view.now.screen a.ram.now u v a.view.now.tree) c.in_r1.ensures c.in_r2.ensures)
