@@ -3,7 +3,12 @@
 use Prim.Native.Nat.{ℕ, zero, suc, ◌+◌, ◌*◌, ◌-◌, ◌/◌, ◌%◌, ◌^◌, ◌≤◌, ◌<◌}
 use mathlib.Core.Path.{◌≡◌, refl, sym, ◌∙◌, ap, ap₂, subst}
 use mathlib.Core.Bool.{Bool, true, false, ◌&&◌}
-use native.Mathlib.Nat.{pow-suc, add-zero, zero-add, add-suc, add-mul, mul_assoc}
+use mathlib.Core.List.{List, [], ◌∷◌}
+use lib.Bits.{bit_or}
+use lib.ListN.{length, get_or}
+use Rattle.std.proofs.lemmas.Nat.{or_shifted}
+use Rattle.std.specs.List.{fold}
+use native.Mathlib.Nat.{pow-suc, add-zero, zero-add, add-suc, add-mul, mul_assoc, mod-eq_of_lt}
 use native.Mathlib.Omega.{arith}
 use lib.Dec.{ltb, leb}
 use lib.Count.{ones, ones_in, ones_cat}
@@ -14,7 +19,7 @@ use Rattle.rules.specs.Folds.{bit, how_many}
 use Rattle.rules.proofs.Choices.{bit_le}
 use Rattle.rules.proofs.Folds.{how_many-add}
 use Rattle.masks.specs.declared.Masks.{Masks}
-use Rattle.masks.specs.Mask.{mask_of, MasksOf}
+use Rattle.masks.specs.Mask.{mask_of, MasksOf, word_of, ones_of}
 use Rattle.masks.specs.Span.{in_span}
 
 one : (b : Bool) → ones (bit b) ≡ bit b
@@ -106,6 +111,25 @@ shifted_span lo hi o h =
     let p : 0 < 2 ^ (64 - hi) = pow_pos (64 - hi) in
     omega (arith, mask_span lo hi 64 o, all_from lo (omega arith), all_from hi h, p)
 
+-- a group's mask put behind a word of at most three, as the machine does it
+put_behind : (w g : ℕ) → w < 281474976710656 → g < 65536 → bit_or (w * 65536 % 2 ^ 64) g ≡ w * 65536 + g
+put_behind w g h k = ap (λ (n : ℕ). bit_or n g) (mod-eq_of_lt (omega arith)) ∙ or_shifted w 16 g k
+
+abbrev pub put_in_turn : List ℕ → ℕ
+put_in_turn groups = fold (λ word group. bit_or (word * 65536 % 2 ^ 64) group) 0 groups
+
+pub side_by_side : (groups : List ℕ) → length groups ≡ 4 → ((i : ℕ) → get_or groups i 0 < 65536) → put_in_turn groups ≡ word_of groups
+side_by_side (a ∷ b ∷ c ∷ d ∷ []) l h =
+    let p = put_behind 0 a (omega arith) (h 0) in
+    let q = put_behind (0 * 65536 + a) b (omega (arith, h 0)) (h 1) in
+    let r = put_behind ((0 * 65536 + a) * 65536 + b) c (omega (arith, h 0, h 1)) (h 2) in
+    let s = put_behind (((0 * 65536 + a) * 65536 + b) * 65536 + c) d (omega (arith, h 0, h 1, h 2)) (h 3) in
+    ap (λ (n : ℕ). bit_or ((bit_or ((bit_or (n * 65536 % 2 ^ 64) b) * 65536 % 2 ^ 64) c) * 65536 % 2 ^ 64) d) p
+    ∙ ap (λ (n : ℕ). bit_or ((bit_or (n * 65536 % 2 ^ 64) c) * 65536 % 2 ^ 64) d) q
+    ∙ ap (λ (n : ℕ). bit_or (n * 65536 % 2 ^ 64) d) r
+    ∙ s
+side_by_side _ l h = absurd (omega (arith, l))
+
 -- Four masks side by side are the mask of 64 columns, and their ones are the columns it names.
 module _ (f : ℕ → Bool) where
   pub wide_is : ((mask_of f 16 * 65536 + mask_of (λ k. f (16 + k)) 16) * 65536 + mask_of (λ k. f (32 + k)) 16) * 65536
@@ -117,30 +141,30 @@ module _ (f : ℕ → Bool) where
       let r : mask_of f 32 ≡ mask_of f 16 * 65536 + mask_of (λ k. f (16 + k)) 16 = mask_cat f 16 16 in
       omega arith
 
-  pub masks-joined : {m : Masks} → MasksOf f m → ((m.one * 65536 + m.two) * 65536 + m.three) * 65536 + m.four ≡ mask_of f 64
-  masks-joined h = rw (h.first, h.second, h.third, h.fourth) wide_is
+  pub masks-joined : {m : Masks} → MasksOf f m → word_of m.groups ≡ mask_of f 64
+  masks-joined h = omega (arith, ap word_of h.groups, wide_is)
 
-  pub masks_ones : {m : Masks} → MasksOf f m → ones m.one + ones m.two + ones m.three + ones m.four ≡ how_many f 64
+  pub masks_ones : {m : Masks} → MasksOf f m → ones_of m.groups ≡ how_many f 64
   masks_ones h =
       let p : how_many f 64 ≡ how_many f 48 + how_many (λ k. f (48 + k)) 16 = how_many-add f 48 16 in
       let q : how_many f 48 ≡ how_many f 32 + how_many (λ k. f (32 + k)) 16 = how_many-add f 32 16 in
       let r : how_many f 32 ≡ how_many f 16 + how_many (λ k. f (16 + k)) 16 = how_many-add f 16 16 in
       omega (
         arith,
-        ap ones h.first ∙ mask_ones f 16,
-        ap ones h.second ∙ mask_ones (λ k. f (16 + k)) 16,
-        ap ones h.third ∙ mask_ones (λ k. f (32 + k)) 16,
-        ap ones h.fourth ∙ mask_ones (λ k. f (48 + k)) 16,
+        ap ones_of h.groups,
+        mask_ones f 16,
+        mask_ones (λ k. f (16 + k)) 16,
+        mask_ones (λ k. f (32 + k)) 16,
+        mask_ones (λ k. f (48 + k)) 16,
       )
 
 pub masks_same : (f g : ℕ → Bool) → ((k : ℕ) → k < 64 → f k ≡ g k) → {m : Masks} → MasksOf f m → MasksOf g m
 masks_same f g e h =
-    record {
-      first = h.first ∙ mask_same f g 16 (λ k l. e k (omega arith));
-      second = h.second ∙ mask_same (λ k. f (16 + k)) (λ k. g (16 + k)) 16 (λ k l. e (16 + k) (omega arith));
-      third = h.third ∙ mask_same (λ k. f (32 + k)) (λ k. g (32 + k)) 16 (λ k l. e (32 + k) (omega arith));
-      fourth = h.fourth ∙ mask_same (λ k. f (48 + k)) (λ k. g (48 + k)) 16 (λ k l. e (48 + k) (omega arith));
-    }
+    let p = mask_same f g 16 (λ k l. e k (omega arith)) in
+    let q = mask_same (λ k. f (16 + k)) (λ k. g (16 + k)) 16 (λ k l. e (16 + k) (omega arith)) in
+    let r = mask_same (λ k. f (32 + k)) (λ k. g (32 + k)) 16 (λ k l. e (32 + k) (omega arith)) in
+    let s = mask_same (λ k. f (48 + k)) (λ k. g (48 + k)) 16 (λ k l. e (48 + k) (omega arith)) in
+    record { groups = h.groups ∙ (λ i. p i ∷ q i ∷ r i ∷ s i ∷ []) }
 
 -- A word of 64 bits whose top n are a mask, all others clear: its top bit is the first leaf, and doubled it is the mask without that leaf.
 abbrev pub Left : (ℕ → Bool) → ℕ → ℕ → Type 0

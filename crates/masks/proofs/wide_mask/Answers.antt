@@ -13,9 +13,9 @@ twice past e = shr-shr (2 ^ 64 - 1) (past - 1) 1 ∙ ap (λ (k : ℕ). (2 ^ 64 -
 pub overflow_sub-result-2 : goal.overflow_sub-result-2
 overflow_sub-result-2 c =
     let a = c.args in
-    omega (arith, shifted_span a.first a.past (omega arith) c.requires.1, twice a.past (omega arith))
+    omega (arith, shifted_span a.first a.past (omega arith) c.requires.limited, twice a.past (omega arith))
 
 pub returns : goal.returns
 returns c =
     let a = c.args in
-    omega (arith, shifted_span a.first a.past (omega arith) c.requires.1, twice a.past (omega arith))
+    omega (arith, shifted_span a.first a.past (omega arith) c.requires.limited, twice a.past (omega arith))
