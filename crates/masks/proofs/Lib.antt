@@ -1,3 +1,4 @@
 -- The laws behind the functions' proofs.
 pub mod Columns
 pub mod Mask
+pub mod Leading

@@ -15,7 +15,8 @@ use Rattle.ram.proofs.Halves.{apart_sym, store_half-comm}
 use Rattle.planes.specs.declared.Tints.{Tints}
 use Rattle.planes.specs.Planes.{tints_at, tint_depth, tint_colour}
 use Rattle.planes.proofs.Affine.{tint_depth_lem, tint_colour_lem}
-use Rattle.rows.specs.Lines.{Line, covered_in, written_in, drawn_in, Writing}
+use Rattle.rows.specs.declared.Line.{Line}
+use Rattle.rows.specs.Lines.{covered_in, written_in, drawn_in, Writing}
 use Rattle.rows.specs.Pixels.{passes, PixelDone}
 use Rattle.rows.proofs.Stretch.{covered_on}
 

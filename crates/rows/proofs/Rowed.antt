@@ -1,13 +1,12 @@
 -- From the masks to the row. A chunk's ones are its covered pixels, and its word is one mask of them. The loop over the chunks: what holds
 -- before column a, that the columns before the span may be skipped, that one chunk more keeps it, and that nothing beyond the span is
 -- covered.
-use Prim.Native.Nat.{ℕ, ◌+◌, ◌*◌, ◌-◌, ◌%◌, ◌≤◌, ◌<◌}
+use Prim.Native.Nat.{ℕ, ◌+◌, ◌-◌, ◌%◌, ◌≤◌, ◌<◌, min}
 use mathlib.Core.Path.{◌≡◌, refl, ◌∙◌, sym, ap, subst}
 use mathlib.Core.Logic.{◌⊎◌, inl, inr}
 use mathlib.Core.Bool.{Bool, true, false}
 use mathlib.Core.List.{List}
 use native.Mathlib.Omega.{arith}
-use lib.Count.{ones}
 use lib.Dec.{ltb}
 use lib.ListN.{length}
 use borrow.Author.Tests.{lt-ltb, ltb-true, ltb-false}
@@ -18,11 +17,12 @@ use Rattle.rules.proofs.Folds.{upto_add, upto_still, upto-keeps, how_many-add, h
 use Rattle.rules.proofs.Pixels.{On, sound_facts, width-le}
 use Rattle.rules.proofs.Drawing.{length-pixel, written-left}
 use Rattle.masks.specs.declared.Masks.{Masks}
-use Rattle.masks.specs.Mask.{MasksOf}
+use Rattle.masks.specs.Mask.{MasksOf, word_of, ones_of}
 use Rattle.masks.specs.Span.{in_span}
 use Rattle.masks.proofs.Columns.{span_within, span-before, span-beyond}
 use Rattle.masks.proofs.Mask.{masks-joined, masks_ones, masks_same}
-use Rattle.rows.specs.Lines.{Line, covered_in, written_in, drawn_in, Drawing, drawing, Writing, writing_of, span}
+use Rattle.rows.specs.declared.Line.{Line}
+use Rattle.rows.specs.Lines.{covered_in, written_in, drawn_in, Drawing, drawing, Writing, writing_of, span}
 use Rattle.rows.specs.Pixels.{chunk_at, chunk_from, WordAsked, WordDone}
 use Rattle.rows.specs.Rows.{ChunkAsked, ChunkDone, RowAsked, RowDone}
 use Rattle.rows.proofs.Stretch.{covered_on, not_written, pixel_still}
@@ -37,7 +37,7 @@ module _ (l : Line) {x : ℕ} (p : On l.screen x l.row) where
   outside_uncovered h = covered-is ∙ h
 
 module _ {l : Line} {a : ℕ} {m : Masks} {d : Drawing} (q : ChunkAsked l a m d) where
-  pub word_asked : {wide : ℕ} → wide ≡ ((m.one * 65536 + m.two) * 65536 + m.three) * 65536 + m.four → WordAsked l a wide (writing_of d)
+  pub word_asked : {wide : ℕ} → wide ≡ word_of m.groups → WordAsked l a wide (writing_of d)
   word_asked e =
       record {
         is_sound = q.is_sound;
@@ -47,7 +47,7 @@ module _ {l : Line} {a : ℕ} {m : Masks} {d : Drawing} (q : ChunkAsked l a m d)
         room = q.room.to_write;
       }
 
-  pub all_ones : ones m.one + ones m.two + ones m.three + ones m.four ≡ how_many (λ k. covered_in l (a + k)) (chunk_from a)
+  pub all_ones : ones_of m.groups ≡ how_many (λ k. covered_in l (a + k)) (chunk_from a)
   all_ones =
       let f : ℕ → Bool = λ k. covered_in l (chunk_at a + k) in
       let e : a % 16 + chunk_from a ≡ 64 = omega arith in
@@ -58,16 +58,10 @@ module _ {l : Line} {a : ℕ} {m : Masks} {d : Drawing} (q : ChunkAsked l a m d)
       omega (arith, masks_ones f q.masks, ap (how_many f) e, how_many-add f (a % 16) (chunk_from a))
 
   pub chunk_done : {n : ℕ} {w : Writing}
-      → n ≡ d.counts.covered + (ones m.one + ones m.two + ones m.three + ones m.four)
+      → n ≡ d.counts.covered + ones_of m.groups
       → WordDone l a (writing_of d) w
       → ChunkDone l a d (drawing w.ram (record { covered = n; written = w.count }))
   chunk_done e c = record { covers = omega (arith, e, all_ones); writes = c.counts; leaves = c.leaves }
-
--- the part of the columns from a up to `to` that lies in a's chunk
-pub in_chunk : {a to past : ℕ} → a < to → (past ≤ 64) × (past ≤ a % 16 + (to - a)) × ((past ≡ 64) ⊎ (past ≡ a % 16 + (to - a)))
-    → (a % 16 < past) × (past ≤ 64)
-in_chunk h (l, k, inl e) = (omega arith, l)
-in_chunk h (l, k, inr e) = (omega arith, l)
 
 -- what holds before column a
 pub record Across (l : Line) (from : ℕ) (d₀ d : Drawing) (a : ℕ) : Type 0 where
@@ -138,7 +132,7 @@ module _ {l : Line} {from to : ℕ} {d₀ : Drawing} (q : RowAsked l (span from 
           go (inr e) = absurd (omega arith)
 
       -- the code's masks are those of the columns from a % 16 up to `past`
-      pub chunk_asked : {past : ℕ} → (past ≤ 64) × (past ≤ a % 16 + (to - a)) × ((past ≡ 64) ⊎ (past ≡ a % 16 + (to - a)))
+      pub chunk_asked : {past : ℕ} → past ≡ min (a % 16 + (to - a)) 64
           → {k : Masks}
           → MasksOf (in_span (a % 16) past) k
           → ChunkAsked l a k d
@@ -157,9 +151,8 @@ module _ {l : Line} {from to : ℕ} {d₀ : Drawing} (q : RowAsked l (span from 
           }
         where
           -- beyond `past` is beyond the span, or beyond the chunk
-          after : (j : ℕ) → j < 64 → past ≤ j → (past ≡ 64) ⊎ (past ≡ a % 16 + (to - a)) → to ≤ chunk_at a + j
-          after j k n (inl i) = absurd (omega arith)
-          after j k n (inr i) = omega arith
+          after : (j : ℕ) → j < 64 → past ≤ j → to ≤ chunk_at a + j
+          after j k n = omega (arith, p)
 
           same : (j : ℕ) → j < 64 → in_span (a % 16) past j ≡ covered_in l (chunk_at a + j)
           same j k = go (ltb j (a % 16)) (ltb j past) refl refl
@@ -171,10 +164,10 @@ module _ {l : Line} {from to : ℕ} {d₀ : Drawing} (q : RowAsked l (span from 
               go false true i o =
                   let n = ltb-false j (a % 16) i in
                   let g = ltb-true j past o in
-                  span_within (a % 16) past j n g ∙ sym (within (chunk_at a + j) (omega (arith, u.begun)) (omega (arith, p.1)))
+                  span_within (a % 16) past j n g ∙ sym (within (chunk_at a + j) (omega (arith, u.begun)) (omega (arith, p)))
               go false false i o =
                   let g = ltb-false j past o in
-                  span-beyond (a % 16) past j g ∙ sym (beyond (chunk_at a + j) (after j k g p.2))
+                  span-beyond (a % 16) past j g ∙ sym (beyond (chunk_at a + j) (after j k g))
 
     pub across_more : a < to → {d' : Drawing} → ChunkDone l a d d' → Across l from d₀ d' (a - a % 16 + 64)
     across_more h c =

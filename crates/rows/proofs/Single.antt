@@ -15,7 +15,8 @@ use Rattle.masks.specs.Mask.{mask_of}
 use Rattle.masks.specs.Span.{in_span}
 use Rattle.masks.proofs.Columns.{span_within, span-before, span-beyond}
 use Rattle.masks.proofs.Mask.{mask_ones}
-use Rattle.rows.specs.Lines.{Line, covered_in, written_in, drawn_in, Drawing, drawing, Writing}
+use Rattle.rows.specs.declared.Line.{Line}
+use Rattle.rows.specs.Lines.{covered_in, written_in, drawn_in, Drawing, drawing, Writing}
 use Rattle.rows.specs.Rows.{LoneAsked, RowDone}
 use Rattle.rows.proofs.Stretch.{not_written, pixel_still}
 

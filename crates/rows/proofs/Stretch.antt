@@ -15,7 +15,8 @@ use Rattle.rules.specs.Triangles.{sample, inside_all, on_screen, covered, writte
 use Rattle.rules.proofs.Folds.{upto-keeps}
 use Rattle.rules.proofs.Pixels.{Sound, On, and_l, and_r}
 use Rattle.rules.proofs.Drawing.{length-pixel, written-pixel}
-use Rattle.rows.specs.Lines.{Line, covered_in, written_in, drawn_in}
+use Rattle.rows.specs.declared.Line.{Line}
+use Rattle.rows.specs.Lines.{covered_in, written_in, drawn_in}
 
 module _ (l : Line) where
   pub covered_on : {x : ℕ} → covered_in l x ≡ true → On l.screen x l.row

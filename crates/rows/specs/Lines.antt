@@ -1,21 +1,16 @@
 -- What this crate's contracts speak of: a row as a triangle is drawn in it, the memory with what was counted so far, and a span of columns.
 use Rattle.std.specs.Prelude.{ℕ, Bool, List}
+use Rattle.rules.specs.declared.Counts.{Counts}
 use Rattle.rules.specs.declared.Screen.{Screen}
 use Rattle.rules.specs.declared.Triangle.{Triangle}
 use Rattle.rules.specs.Triangles.{covered, written, pixel_drawn}
 use Rattle.cover.specs.declared.Span.{Span}
-use Rattle.rows.specs.declared.Counts.{Counts}
-
--- a row of a screen, and the triangle that is drawn in it
-pub record Line : Type 0 where
-  pub screen : Screen
-  pub triangle : Triangle
-  pub row : ℕ
+use Rattle.rows.specs.declared.Line.{Line}
 
 abbrev pub line : Screen → Triangle → ℕ → Line
 line s t y = record { screen = s; triangle = t; row = y }
 
--- its pixel in column x: whether it is covered, whether it is written over memory m, and m after it is drawn
+-- a row's pixel in column x: whether it is covered, whether it is written over memory m, and m after it is drawn
 abbrev pub covered_in : Line → ℕ → Bool
 covered_in l x = covered l.triangle l.screen x l.row
 

@@ -6,7 +6,8 @@ use Rattle.rules.specs.Sizes.{height, sound}
 use Rattle.masks.specs.Mask.{mask_of}
 use Rattle.planes.specs.declared.Tints.{Tints}
 use Rattle.planes.specs.Planes.{tint_depth, tint_colour}
-use Rattle.rows.specs.Lines.{Line, covered_in, written_in, drawn_in, Writing}
+use Rattle.rows.specs.declared.Line.{Line}
+use Rattle.rows.specs.Lines.{covered_in, written_in, drawn_in, Writing}
 
 abbrev pub passes : List ℕ → ℕ → Tints → Bool
 passes m depth v = leb (tint_depth v) (load_half m depth)

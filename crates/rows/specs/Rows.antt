@@ -7,8 +7,9 @@ use Rattle.masks.specs.declared.Masks.{Masks}
 use Rattle.masks.specs.Mask.{MasksOf}
 use Rattle.masks.specs.Span.{in_span}
 use Rattle.cover.specs.declared.Span.{Span}
-use Rattle.rows.specs.declared.Counts.{Counts}
-use Rattle.rows.specs.Lines.{Line, covered_in, written_in, drawn_in, Drawing}
+use Rattle.rules.specs.declared.Counts.{Counts}
+use Rattle.rows.specs.declared.Line.{Line}
+use Rattle.rows.specs.Lines.{covered_in, written_in, drawn_in, Drawing}
 use Rattle.rows.specs.Pixels.{chunk_at, chunk_from}
 
 -- the counts can still grow by k

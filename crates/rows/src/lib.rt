@@ -5,9 +5,12 @@ pub mod chunks;
 pub mod lone;
 pub mod pixels;
 
-// How many pixels were covered and how many written.
+use rules::{Screen, Triangle};
+
+// A row of a screen, and the triangle that is drawn in it.
 #[derive(Clone, Copy)]
-pub struct Counts {
-    pub covered: u32,
-    pub written: u32,
+pub struct Line {
+    pub screen: Screen,
+    pub triangle: Triangle,
+    pub row: u32,
 }

@@ -1,14 +1,11 @@
 -- The loop's invariant is `Across`: what holds before column a. Its laws are the loop's needs.
 use Prim.Native.Nat.{◌<◌}
 use native.Mathlib.Omega.{arith}
-use Rattle.rows.proofs.Rowed.{across-first, across_more, across-last, in_chunk, short, chunk_asked}
+use Rattle.rows.proofs.Rowed.{across-first, across_more, across-last, short, chunk_asked}
 use Rattle.rows.proofs.chunks.row.Goals as goal
 
 pub loop-a-init : goal.loop-a-init
 loop-a-init c = across-first c.requires
-
-pub overflow_sub-to : goal.overflow_sub-to
-overflow_sub-to c = omega (arith, c.loop-a-test.true)
 
 pub overflow_add-first : goal.overflow_add-first
 overflow_add-first c = record {
@@ -17,14 +14,10 @@ overflow_add-first c = record {
       omega (arith, left);
 }
 
-pub span_masks-requires : goal.span_masks-requires
-span_masks-requires c =
-    in_chunk c.loop-a-test.true c.lesser-past.ensures
-
 pub chunk-c-requires : goal.chunk-c-requires
 chunk-c-requires c =
-    chunk_asked c.requires c.loop-a.invariant c.loop-a-test.true c.lesser-past.ensures
-    c.span_masks.ensures
+    chunk_asked c.requires c.loop-a.invariant c.loop-a-test.true c.min-past.ensures
+    c.of_span.ensures
 
 pub overflow_add-a : goal.overflow_add-a
 overflow_add-a c =
