@@ -22,7 +22,7 @@ use Rattle.masks.specs.Span.{in_span}
 use Rattle.masks.proofs.Columns.{span_within, span-before, span-beyond}
 use Rattle.masks.proofs.Mask.{masks-joined, masks_ones, masks_same}
 use Rattle.rows.specs.declared.Line.{Line}
-use Rattle.rows.specs.Lines.{covered_in, written_in, drawn_in, Drawing, drawing, Writing, writing_of, span}
+use Rattle.rows.specs.Lines.{covered_in, written_in, drawn_in, Drawing, drawing, Writing, writing_of}
 use Rattle.rows.specs.Pixels.{chunk_at, chunk_from, WordAsked, WordDone}
 use Rattle.rows.specs.Rows.{ChunkAsked, ChunkDone, RowAsked, RowDone}
 use Rattle.rows.proofs.Stretch.{covered_on, not_written, pixel_still}
@@ -71,7 +71,7 @@ pub record Across (l : Line) (from : ℕ) (d₀ d : Drawing) (a : ℕ) : Type 0 
   pub is_covered : d.counts.covered ≡ d₀.counts.covered + how_many (covered_in l) a
   pub is_written : d.counts.written ≡ d₀.counts.written + how_many (written_in l d₀.ram) a
 
-module _ {l : Line} {from to : ℕ} {d₀ : Drawing} (q : RowAsked l (span from to) d₀) where
+module _ {l : Line} {from to : ℕ} {d₀ : Drawing} (q : RowAsked l (record { start = from; end = to }) d₀) where
   within : (x : ℕ) → from ≤ x → x < to → covered_in l x ≡ true
   within x h i = q.spans x (omega (arith, q.limited)) ∙ span_within from to x h i
 

@@ -1,10 +1,9 @@
--- What this crate's contracts speak of: a row as a triangle is drawn in it, the memory with what was counted so far, and a span of columns.
+-- What this crate's contracts speak of: a row as a triangle is drawn in it, and the memory with what was counted so far.
 use Rattle.std.specs.Prelude.{ℕ, Bool, List}
 use Rattle.rules.specs.declared.Counts.{Counts}
 use Rattle.rules.specs.declared.Screen.{Screen}
 use Rattle.rules.specs.declared.Triangle.{Triangle}
 use Rattle.rules.specs.Triangles.{covered, written, pixel_drawn}
-use Rattle.cover.specs.declared.Span.{Span}
 use Rattle.rows.specs.declared.Line.{Line}
 
 abbrev pub line : Screen → Triangle → ℕ → Line
@@ -38,7 +37,3 @@ writing ram count = record { ram = ram; count = count }
 
 abbrev pub writing_of : Drawing → Writing
 writing_of d = writing d.ram d.counts.written
-
--- the columns from one up to but not including another
-abbrev pub span : ℕ → ℕ → Span
-span from to = record { from = from; to = to }

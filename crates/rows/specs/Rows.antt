@@ -6,7 +6,7 @@ use Rattle.rules.specs.Triangles.{row_drawn}
 use Rattle.masks.specs.declared.Masks.{Masks}
 use Rattle.masks.specs.Mask.{MasksOf}
 use Rattle.masks.specs.Span.{in_span}
-use Rattle.cover.specs.declared.Span.{Span}
+use Rattle.std.specs.declared.ops.Range.{Range}
 use Rattle.rules.specs.declared.Counts.{Counts}
 use Rattle.rows.specs.declared.Line.{Line}
 use Rattle.rows.specs.Lines.{covered_in, written_in, drawn_in, Drawing}
@@ -32,12 +32,12 @@ pub record ChunkDone (l : Line) (a : ℕ) (before after : Drawing) : Type 0 wher
   pub leaves : after.ram ≡ upto (λ k. drawn_in l (a + k)) (chunk_from a) before.ram
 
 -- the row's covered pixels are those of the span
-pub record RowAsked (l : Line) (columns : Span) (before : Drawing) : Type 0 where
+pub record RowAsked (l : Line) (columns : Range ℕ) (before : Drawing) : Type 0 where
   pub is_sound : sound (length before.ram) l.screen ≡ true
   pub row : l.row < height l.screen.size
-  pub ordered : columns.from ≤ columns.to
-  pub limited : columns.to ≤ width l.screen.size
-  pub spans : (x : ℕ) → x < width l.screen.size → covered_in l x ≡ in_span columns.from columns.to x
+  pub ordered : columns.start ≤ columns.end
+  pub limited : columns.end ≤ width l.screen.size
+  pub spans : (x : ℕ) → x < width l.screen.size → covered_in l x ≡ in_span columns.start columns.end x
   pub room : Room before.counts 1024
 
 -- of the row pixel x alone can be covered, and is where `on` says so

@@ -4,9 +4,9 @@ ghost use Rattle.rows.specs.Rows.{ChunkAsked, ChunkDone, RowAsked, RowDone};
 
 use crate::Line;
 use crate::pixels::enabled;
-use cover::Span;
 use masks::Masks;
 use rules::Counts;
+use std::ops::Range;
 
 // Four groups side by side, a's and those to its right, by their masks alone: the ones are counted, as 01 counts, and the pixels drawn.
 fn chunk(ram: &mut [u8], line: Line, a: u32, m: Masks, given: Counts) -> Counts
@@ -19,15 +19,15 @@ fn chunk(ram: &mut [u8], line: Line, a: u32, m: Masks, given: Counts) -> Counts
 }
 
 // A row whose covered pixels are those of the columns. It adds to the counts given.
-pub fn row(ram: &mut [u8], line: Line, columns: Span, given: Counts) -> Counts
+pub fn row(ram: &mut [u8], line: Line, columns: Range<u32>, given: Counts) -> Counts
     requires { RowAsked line columns (drawing ram.old given) }
     ensures { RowDone line (drawing ram.old given) (drawing ram.new result) }
 {
-    let mut a = columns.from;
+    let mut a = columns.start;
     let mut c = given;
-    while a < columns.to {
+    while a < columns.end {
         let first = a % 16;
-        let past = (first + (columns.to - a)).min(64);
+        let past = (first + (columns.end - a)).min(64);
         c = chunk(ram, line, a, Masks::of_span(first, past), c);
         a = a - first + 64;
     }

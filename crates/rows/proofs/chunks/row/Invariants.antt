@@ -5,7 +5,7 @@ use Rattle.rows.proofs.Rowed.{Across}
 use Rattle.rows.proofs.chunks.row.Given as goal
 
 abbrev pub invariant-loop-a : goal.invariant-loop-a
-invariant-loop-a l = Across l.line l.columns.from (drawing l.initial.ram l.initial.c) (drawing l.ram l.c) l.a
+invariant-loop-a l = Across l.line l.columns.start (drawing l.initial.ram l.initial.c) (drawing l.ram l.c) l.a
 
 abbrev pub decreases-loop-a : goal.decreases-loop-a
-decreases-loop-a l = l.columns.to - l.a
+decreases-loop-a l = l.columns.end - l.a
