@@ -1,6 +1,7 @@
 // The step: one arm for each opcode, and each arm one call. The instructions up to WRITE and those from SCRSET on are matched apart: the
-// first pass no screen and no tree on, and one match over both would copy them at each step.
-ghost use Rattle.pieces.specs.Steps.{Steps, ViewSteps, plain, viewing};
+// first touch no screen and no tree.
+ghost use Rattle.std.specs.Prelude.{length};
+ghost use Rattle.pieces.specs.Steps.{Steps, ViewSteps, plain, plain_after, viewing, viewing_after};
 ghost use Rattle.steps.specs.Fits.{PlainFits, ViewFits};
 
 use crate::opcodes::{
@@ -10,29 +11,31 @@ use crate::opcodes::{
 };
 use access::{do_dot, do_ld, do_read, do_st, do_write};
 use alu::fields::opcode;
+use instructions::Halt;
 use jumps::{do_call, do_jeq, do_jge, do_jgt, do_jle, do_jlt, do_jmp, do_jne};
-use pieces::state::{Cpu, View, stopped};
+use pieces::registers::Registers;
+use pieces::state::{Cpu, View};
 use results::{
     do_add, do_and, do_asr, do_asri, do_li, do_lsl, do_lsli, do_lsr, do_lsri, do_mul, do_mulf,
     do_not, do_or, do_recp, do_sub, do_xor,
 };
-use views::{ViewStep, do_cls, do_scrset, do_treein, do_treeput, do_treeset, do_treeval, stop};
+use views::{do_cls, do_scrset, do_treein, do_treeput, do_treeset, do_treeval};
 
 // An instruction up to WRITE. No word reaches the last arm.
 pub fn plain_step(
     w: u32,
-    regs: &mut [u32; 32],
-    memory: &mut [u32],
+    regs: &mut Registers,
+    memory: &mut [u32; 1024],
     ram: &mut [u8],
     cpu: Cpu,
     table: &[u32],
-) -> Cpu
-    requires { PlainFits w (plain regs.old cpu memory.old ram.old) table.now }
-    ensures { Steps w (plain regs.old cpu memory.old ram.old) (plain regs.new result memory.new ram.new) }
+) -> Result<Cpu, Halt>
+    requires { PlainFits w cpu table.now }
+    ensures { Steps w (plain regs.old.words cpu memory.old ram.old) (plain_after regs.new.words cpu result memory.new ram.new) }
 {
-    match opcode(w) {
-        LD => do_ld(w, memory, regs, cpu),
-        ST => do_st(w, memory, regs, cpu),
+    let next = match opcode(w) {
+        LD => do_ld(w, memory, regs, cpu)?,
+        ST => do_st(w, memory, regs, cpu)?,
         LI => do_li(w, regs, cpu),
         ADD => do_add(w, regs, cpu),
         SUB => do_sub(w, regs, cpu),
@@ -63,17 +66,24 @@ pub fn plain_step(
         JGTL => do_jgt(w, regs, cpu),
         JGE => do_jge(w, regs, cpu),
         JGEL => do_jge(w, regs, cpu),
-        DOT => do_dot(w, memory, regs, cpu),
-        READ => do_read(w, regs, memory, ram, cpu),
-        WRITE => do_write(w, regs, memory, ram, cpu),
-        _ => stopped(cpu, 11),
-    }
+        DOT => do_dot(w, memory, regs, cpu)?,
+        READ => do_read(w, regs, memory, ram, cpu)?,
+        WRITE => do_write(w, regs, memory, ram, cpu)?,
+        _ => return Err(Halt::NoInstruction),
+    };
+    Ok(next)
 }
 
 // An instruction from SCRSET on, or an opcode that has none.
-pub fn view_step(w: u32, regs: &mut [u32; 32], cpu: Cpu, view: View, ram: &mut [u8]) -> ViewStep
-    requires { ViewFits w (viewing regs.old cpu view ram.old) }
-    ensures { ViewSteps w (viewing regs.old cpu view ram.old) (viewing regs.new result.cpu result.view ram.new) }
+pub fn view_step(
+    w: u32,
+    regs: &mut Registers,
+    cpu: Cpu,
+    view: &mut View,
+    ram: &mut [u8],
+) -> Result<Cpu, Halt>
+    requires { ViewFits w cpu view.old (length ram.old) }
+    ensures { ViewSteps w (viewing regs.old.words cpu view.old ram.old) (viewing_after regs.new.words cpu result view.new ram.new) }
 {
     match opcode(w) {
         SCRSET => do_scrset(w, regs, cpu, view, ram),
@@ -82,6 +92,6 @@ pub fn view_step(w: u32, regs: &mut [u32; 32], cpu: Cpu, view: View, ram: &mut [
         TREEIN => do_treein(w, regs, cpu, view),
         TREEVAL => do_treeval(w, regs, cpu, view, ram),
         TREEPUT => do_treeput(w, regs, cpu, view, ram),
-        _ => stop(cpu, view, 11),
+        _ => Err(Halt::NoInstruction),
     }
 }

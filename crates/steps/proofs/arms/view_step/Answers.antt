@@ -2,15 +2,15 @@
 -- function promises the step there.
 use native.Mathlib.Omega.{arith}
 use lib.ListN.{length}
+use Rattle.instructions.specs.declared.Halt.TheVariants.{NoInstruction}
 use Rattle.pieces.specs.Pieces.{joined}
 use Rattle.pieces.proofs.Cases.{case-above}
-use Rattle.views.proofs.Viewed.{view_stops}
+use Rattle.pieces.proofs.Joined.{stops}
 use Rattle.steps.proofs.arms.view_step.Goals as goal
 
 pub returns-in_default : goal.returns-in_default
 returns-in_default c =
     λ memory.
     let a = c.args in
-    view_stops a.regs.now a.cpu a.view memory a.ram.now a.w 11 _ c.stop.ensures
-    (case-above (length a.ram.now) (joined a.regs.now a.cpu a.view) a.w (omega (arith, c.opcode.ensures, c.requires.high)))
-    (λ q. omega (arith, q))
+    stops a.regs.now.words a.cpu a.view.now memory a.ram.now a.w NoInstruction
+    (case-above (length a.ram.now) (joined a.regs.now.words a.cpu 0 a.view.now) a.w (omega (arith, c.opcode.ensures, c.requires.high)))
