@@ -1,5 +1,4 @@
 -- Laws of a column's samples.
 pub mod Scale
-pub mod Counted
 pub mod Later
 pub mod Taken

@@ -14,21 +14,21 @@ use Rattle.waveform.specs.Panel.{Waveform, first_of, takes, column_samples}
 use Rattle.waveform.specs.Members.{Has, Sample}
 use Rattle.waveform.proofs.Members.{column_has}
 use Rattle.waveform.proofs.Extremes as extremes
-use Rattle.samples.specs.declared.Range.{Range}
-use Rattle.samples.specs.declared.Reach.{Reach}
+use Rattle.std.specs.declared.ops.Range.{Range}
+use Rattle.samples.specs.declared.Extremes.{Extremes}
 use Rattle.samples.specs.Reached.{Reaches, Between, at, Last, EndsBetween}
 
 module _
     (w : Waveform)
     (x : ℕ)
-    {k : Reach}
+    {k : Range ℕ}
     (reached : Reaches (length w.samples) w.n w.d x k)
   where
     abbrev from : ℕ
-    from = k.from
+    from = k.start
 
     abbrev to : ℕ
-    to = k.to
+    to = k.end
 
     takes-between : (i : ℕ) → i < length w.samples → takes w.n w.d x i ≡ leb from i && ltb i to
     unfolding takes
@@ -57,7 +57,7 @@ module _
         let b = taken ((column_has w x u).0 m) in
         omega (arith, b.not_before, b.before)
 
-    pub column-ends : {r : Range} → EndsBetween w.samples from to r → extremes.Ends (column_samples w x) r.largest r.smallest
+    pub column-ends : {r : Extremes} → EndsBetween w.samples from to r → extremes.Ends (column_samples w x) r.largest r.smallest
     column-ends {r} e = record {
       has_high = has e.high;
       has_low = has e.low;

@@ -2,8 +2,8 @@
 use Rattle.std.specs.Prelude.{ℕ, ◌≤◌, ◌<◌, ◌≡◌, ◌⊎◌, List, get_or, leb, ℤ, pos, ◌+ℤ◌, ◌≤ℤ◌}
 use Rattle.std.specs.Int.Signed.{le_z}
 use Rattle.waveform.specs.Panel.{first_of}
-use Rattle.samples.specs.declared.Range.{Range}
-use Rattle.samples.specs.declared.Reach.{Reach}
+use Rattle.std.specs.declared.ops.Range.{Range}
+use Rattle.samples.specs.declared.Extremes.{Extremes}
 
 -- of the numbers below `count`, those from k on are those from r on
 pub record Clamps (k : ℤ) (count r : ℕ) : Type 0 where
@@ -11,9 +11,9 @@ pub record Clamps (k : ℤ) (count r : ℕ) : Type 0 where
   pub from : (i : ℕ) → i < count → le_z k (pos i) ≡ leb r i
 
 -- the ends of column x among so many samples
-pub record Reaches (count : ℕ) (n d : ℤ) (x : ℕ) (r : Reach) : Type 0 where
-  pub begins : Clamps (first_of n d x) count r.from
-  pub ends : Clamps (first_of n d x +ℤ n) count r.to
+pub record Reaches (count : ℕ) (n d : ℤ) (x : ℕ) (r : Range ℕ) : Type 0 where
+  pub begins : Clamps (first_of n d x) count r.start
+  pub ends : Clamps (first_of n d x +ℤ n) count r.end
 
 -- the number of a sample between two
 pub record Between (from to i : ℕ) : Type 0 where
@@ -40,6 +40,6 @@ pub record Last (before : ℤ → ℤ → Type 0) (samples : List ℤ) (from to 
   pub is : at samples place ≡ v
   pub after_each : (i : ℕ) → Between from to i → before (at samples i) v
 
-pub record EndsBetween (samples : List ℤ) (from to : ℕ) (r : Range) : Type 0 where
+pub record EndsBetween (samples : List ℤ) (from to : ℕ) (r : Extremes) : Type 0 where
   pub high : Last ◌≤ℤ◌ samples from to r.largest
   pub low : Last ◌≥ℤ◌ samples from to r.smallest

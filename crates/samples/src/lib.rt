@@ -1,89 +1,55 @@
 // Which samples a column has, the largest and the smallest of them, and the rows at which they stand.
 #![tactic(auto)]
 
-ghost use Rattle.std.specs.Prelude.{◌≡◌, true, ◌≤◌, ◌<◌, length, ◌≤ℤ◌};
+ghost use Rattle.std.specs.Prelude.{◌≡◌, true, ◌≤◌, ◌<◌, length};
 ghost use Rattle.waveform.specs.Panel.{good_waveform, row_of};
-ghost use Rattle.samples.specs.Reached.{Clamps, EndsBetween, LaterOf, Reaches, ◌≥ℤ◌};
+ghost use Rattle.samples.specs.Reached.{Clamps, EndsBetween, Reaches};
+
+use std::ops::Range;
 
 // k as a number of samples: 0 where it is below that, and `count` where there are fewer.
 fn clamped(k: i32, count: usize) -> usize
     requires { count ≤ 40960 }
     ensures { Clamps k count result }
 {
-    if k < 0 {
-        return 0;
-    }
-    let i = k as u32 as usize;
-    if count < i {
-        return count;
-    }
-    i
+    (k.max(0) as usize).min(count)
 }
 
-// The samples that column x takes and that exist: from number `from` up to but not including `to`.
-#[derive(Clone, Copy)]
-pub struct Reach {
-    pub from: usize,
-    pub to: usize,
-}
-
-// Where column x begins and ends, cut to the samples that there are.
-pub fn reached(count: usize, n: i32, d: i32, x: u32) -> Reach
-    requires { (good_waveform count n d ≡ true) × (x < 640) }
+// The samples that column x takes, cut to those that there are.
+pub fn reached(count: usize, n: i32, d: i32, x: u32) -> Range<usize>
+    requires good { good_waveform count n d ≡ true }
+    requires across { x < 640 }
     ensures { Reaches count n d x result }
 {
     let first = x as i32 * n + d;
-    Reach {
-        from: clamped(first, count),
-        to: clamped(first + n, count),
-    }
+    clamped(first, count)..clamped(first + n, count)
 }
 
 // The largest and the smallest of some samples.
 #[derive(Clone, Copy)]
-pub struct Range {
+pub struct Extremes {
     pub largest: i16,
     pub smallest: i16,
 }
 
-// The greater of two samples.
-fn greater(a: i16, b: i16) -> i16
-    ensures { LaterOf ◌≤ℤ◌ a b result }
+// The ends of the samples with numbers in a range.
+pub fn ends(samples: &[i16], numbers: Range<usize>) -> Extremes
+    requires some { numbers.start < numbers.end }
+    requires exist { numbers.end ≤ length samples.now }
+    ensures { EndsBetween samples.now numbers.start numbers.end result }
 {
-    if a < b {
-        return b;
+    let first = samples[numbers.start];
+    let mut largest = first;
+    let mut smallest = first;
+    for &v in &samples[numbers.start + 1..numbers.end] {
+        largest = largest.max(v);
+        smallest = smallest.min(v);
     }
-    a
-}
-
-// The lesser of two.
-fn lesser(a: i16, b: i16) -> i16
-    ensures { LaterOf ◌≥ℤ◌ a b result }
-{
-    if b < a {
-        return b;
-    }
-    a
-}
-
-// The ends of the samples from number `from` up to but not including `to`.
-pub fn ends(samples: &[i16], from: usize, to: usize) -> Range
-    requires { (from < to) × (to ≤ length samples.now) × (to ≤ 40960) }
-    ensures { EndsBetween samples.now from to result }
-{
-    let mut largest = samples[from];
-    let mut smallest = samples[from];
-    let mut i = from + 1;
-    while i < to {
-        let v = samples[i];
-        largest = greater(largest, v);
-        smallest = lesser(smallest, v);
-        i += 1;
-    }
-    Range { largest, smallest }
+    Extremes { largest, smallest }
 }
 
 // The row at which a sample stands.
+#[tactic(auto, unfolding(waveform::specs::Panel::row_of))]
 pub fn row_of(v: i16, height: u32) -> u32
     requires { height ≤ 480 }
     ensures { result ≡ row_of height v }

@@ -21,27 +21,27 @@ module _ {count x : ℕ} {n d : ℤ} (f : SFits w32 n) (g : SFits w32 d) (h : Go
   first = product ⊞ known (got_arg g (d_within h))
 
 pub overflow_mul-first : goal.overflow_mul-first
-overflow_mul-first c = need (product c.ranges.n c.ranges.d (good_facts c.requires.0) (omega (arith, c.requires.1))) tt
+overflow_mul-first c = need (product c.ranges.n c.ranges.d (good_facts c.requires.good) (omega (arith, c.requires.across))) tt
 
 pub overflow_add-first : goal.overflow_add-first
-overflow_add-first c = need (first c.ranges.n c.ranges.d (good_facts c.requires.0) (omega (arith, c.requires.1))) tt
+overflow_add-first c = need (first c.ranges.n c.ranges.d (good_facts c.requires.good) (omega (arith, c.requires.across))) tt
 
 pub clamped-requires : goal.clamped-requires
-clamped-requires c = (good_facts c.requires.0).count_most
+clamped-requires c = (good_facts c.requires.good).count_most
 
 pub overflow_add-first-2 : goal.overflow_add-first-2
 overflow_add-first-2 c =
-    let h : Good c.args.count c.args.n c.args.d = good_facts c.requires.0 in
-    let l : c.args.x ≤ 640 = omega (arith, c.requires.1) in
+    let h : Good c.args.count c.args.n c.args.d = good_facts c.requires.good in
+    let l : c.args.x ≤ 640 = omega (arith, c.requires.across) in
     need (first c.ranges.n c.ranges.d h l ⊞ per_column c.ranges.n c.ranges.d h l) tt
 
 pub clamped-requires-2 : goal.clamped-requires-2
-clamped-requires-2 c = (good_facts c.requires.0).count_most
+clamped-requires-2 c = (good_facts c.requires.good).count_most
 
 pub returns : goal.returns
 returns c =
-    let h : Good c.args.count c.args.n c.args.d = good_facts c.requires.0 in
-    let l : c.args.x ≤ 640 = omega (arith, c.requires.1) in
+    let h : Good c.args.count c.args.n c.args.d = good_facts c.requires.good in
+    let l : c.args.x ≤ 640 = omega (arith, c.requires.across) in
     let f : Code w32 = first c.ranges.n c.ranges.d h l in
     let e : Code w32 = f ⊞ per_column c.ranges.n c.ranges.d h l in
     record {
