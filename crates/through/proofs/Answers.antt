@@ -64,13 +64,13 @@ narrowed {n} {z} {y} is e f h =
 
 module _ (s : Solvable) where
   abbrev v : Vertices
-  v = s.vertices
+  v = s.corners.vertices
 
   abbrev r : Values
   r = s.values
 
   pub lacking : Lacks v r → through_number v r ≡ 9
-  lacking l = (through_numbers v r).nine.1 (s.in_range.vertices, l)
+  lacking l = (through_numbers v r).nine.1 (s.corners.in_range, l)
 
   three : {a b c : Bool} → a && b && c ≡ true → (a ≡ true) × (b ≡ true) × (c ≡ true)
   three {a} {b} {c} h =
@@ -80,7 +80,7 @@ module _ (s : Solvable) where
 
   values : (value_in_range r.r1 ≡ true) × (value_in_range r.r2 ≡ true) × (value_in_range r.r3 ≡ true)
   unfolding values_in_range
-  values = three {a = value_in_range r.r1} {b = value_in_range r.r2} {c = value_in_range r.r3} s.in_range.values
+  values = three {a = value_in_range r.r1} {b = value_in_range r.r2} {c = value_in_range r.r3} s.in_range
 
   pub has_plane : in_signed32 (through_c v r) ≡ true
       → in_signed32 (through_a v r) ≡ true
@@ -88,7 +88,7 @@ module _ (s : Solvable) where
       → through_number v r ≡ 0
   has_plane c a b =
       (through_numbers v r).done.1 (
-        s.in_range.vertices,
+        s.corners.in_range,
         record {
           first = values.0;
           second = values.1;

@@ -15,15 +15,15 @@ use Rattle.ints.proofs.Bounds.{fits_32, Within, within_range, within_lit, within
 use Rattle.ints.proofs.Machine.{Got, got_in, got_lit, Code, known, ◌⊠◌, reads_as}
 use Rattle.rules.specs.declared.Vertices.{Vertices}
 use Rattle.rules.specs.Triangles.{sample, doubled_area}
-use Rattle.rules.specs.Numbers.{vertices_in_range}
 use Rattle.rules.proofs.Choices.{and_true}
+use Rattle.edges.specs.declared.corners.Corners.{Corners}
 use Rattle.edges.proofs.Within.{six, vertex_within}
 use Rattle.interpolation.specs.declared.Values.{Values}
 use Rattle.interpolation.specs.Interpolation.{value_in_range, values_in_range, numerator_a, numerator_b, numerator}
 use Rattle.interpolation.specs.Interpolation.{in_units, rounded_down}
 use Rattle.interpolation.proofs.Cramer.{a-by-differences, b-by-differences, by_differences}
 use Rattle.through.specs.declared.Solvable.{Solvable}
-use Rattle.through.specs.Through.{InRange, Small, determinant}
+use Rattle.through.specs.Through.{Small, determinant}
 
 pub record VerticesWithin (v : Vertices) : Type 0 where
   pub x1 : Within 8192 v.x1
@@ -33,9 +33,10 @@ pub record VerticesWithin (v : Vertices) : Type 0 where
   pub x3 : Within 8192 v.x3
   pub y3 : Within 8192 v.y3
 
-pub vertices_within : (v : Vertices) → vertices_in_range v ≡ true → VerticesWithin v
-vertices_within v h =
-    let s = six v h in
+pub corners_within : (c : Corners) → VerticesWithin c.vertices
+corners_within c =
+    let v = c.vertices in
+    let s = six v c.in_range in
     record {
       x1 = vertex_within v.x1 s.in_x1;
       y1 = vertex_within v.y1 s.in_y1;
@@ -66,11 +67,8 @@ pub record AllWithin (v : Vertices) (r : Values) : Type 0 where
   pub vertices : VerticesWithin v
   pub values : ValuesWithin r
 
-pub all_within : (v : Vertices) (r : Values) → InRange v r → AllWithin v r
-all_within v r h = record { vertices = vertices_within v h.vertices; values = values_within r h.values }
-
-pub within : (s : Solvable) → AllWithin s.vertices s.values
-within s = all_within s.vertices s.values s.in_range
+pub within : (s : Solvable) → AllWithin s.corners.vertices s.values
+within s = record { vertices = corners_within s.corners; values = values_within s.values s.in_range }
 
 -- what is worked out of them
 
@@ -83,7 +81,7 @@ area_within v w =
 
 module _ (s : Solvable) where
   abbrev v : Vertices
-  v = s.vertices
+  v = s.corners.vertices
 
   abbrev r : Values
   r = s.values
@@ -167,7 +165,7 @@ unfolding rounded_down
 rounded_within d h = within_shr (nat_abs d) h
 
 pub area_is_within : (s : Solvable) → Within 536870912 s.area
-area_is_within s = subst (Within 536870912) (sym s.is_area) (area_within s.vertices (within s).vertices)
+area_is_within s = subst (Within 536870912) (sym s.is_area) (area_within s.corners.vertices (within s).vertices)
 
 -- in units
 

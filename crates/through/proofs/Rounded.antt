@@ -1,13 +1,20 @@
--- The library's Euclidean quotient by a positive divisor is the quotient rounded down.
+-- A number folded where it is below 0: its quotient by a positive divisor, folded back, is the quotient rounded down.
+use Prim.Native.Nat.{ℕ}
 use mathlib.Core.Path.{◌≡◌, refl}
+use mathlib.Core.Bool.{false}
+use native.Mathlib.Omega.{arith}
 use lib.IntN.{ℤ, pos, negsuc}
-use lib.Signed.{◌<ℤ◌}
-use Rattle.std.specs.Int.{int_div_euclid}
+use lib.Signed.{lt_z, quot_z, ◌<ℤ◌}
+use borrow.Author.Tests.{le-ltb}
 use Rattle.interpolation.specs.Interpolation.{rounded_down}
+use Rattle.through.specs.Through.{folded}
 
-pub rounds_down : (n d : ℤ) → pos 0 <ℤ d → int_div_euclid n d ≡ rounded_down n d
+not_below : (n : ℕ) → lt_z (pos n) (pos 0) ≡ false
+not_below n = le-ltb n 0 (omega arith)
+
+pub rounds_down : (n d : ℤ) → pos 0 <ℤ d → folded (lt_z n (pos 0)) (quot_z (folded (lt_z n (pos 0)) n) d) ≡ rounded_down n d
 unfolding rounded_down
-rounds_down (pos n) (pos d) h = refl
+rounds_down (pos n) (pos d) h = rw (not_below n)
 rounds_down (negsuc n) (pos d) h = refl
 rounds_down (pos n) (negsuc d) h = absurd h.lt
 rounds_down (negsuc n) (negsuc d) h = absurd h.lt

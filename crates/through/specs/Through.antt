@@ -1,13 +1,5 @@
--- What is in range where the plane is worked out, what can be divided in 64 bits, and a refusal.
-use Rattle.std.specs.Prelude.{◌≤◌, ◌≡◌, true, ℤ, pos, nat_abs, ◌-ℤ◌, ◌*ℤ◌, ◌<ℤ◌}
-use Rattle.rules.specs.declared.Vertices.{Vertices}
-use Rattle.rules.specs.Numbers.{vertices_in_range}
-use Rattle.interpolation.specs.declared.Values.{Values}
-use Rattle.interpolation.specs.Interpolation.{values_in_range}
-
-pub record InRange (v : Vertices) (r : Values) : Type 0 where
-  pub vertices : vertices_in_range v ≡ true
-  pub values : values_in_range r ≡ true
+-- Numbers that a determinant is small of, and what can be divided in 64 bits.
+use Rattle.std.specs.Prelude.{◌≤◌, Bool, true, false, ℤ, pos, negsuc, nat_abs, ◌-ℤ◌, ◌*ℤ◌, ◌<ℤ◌}
 
 -- three numbers no larger than values in range
 pub record Small (a b c : ℤ) : Type 0 where
@@ -23,3 +15,9 @@ determinant p1 p2 p3 q1 q2 q3 = (p2 -ℤ p1) *ℤ (q3 -ℤ q1) -ℤ (p3 -ℤ p1)
 pub record CanDivide (n d : ℤ) : Type 0 where
   pub small : nat_abs n ≤ 4611686018427387904
   pub positive : pos 0 <ℤ d
+
+-- a number folded at the middle between 0 and -1, where it is to be folded
+abbrev pub folded : Bool → ℤ → ℤ
+folded false z = z
+folded true (pos n) = negsuc n
+folded true (negsuc n) = pos n

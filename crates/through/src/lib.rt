@@ -4,13 +4,13 @@
 ghost use Rattle.std.specs.Prelude.{◌≡◌, ◌≤◌, true, false, pos, nat_abs, ◌<ℤ◌, IfErr, IfOk, OnErr, OnOk};
 ghost use Rattle.rules.specs.Answers.{refusal_number};
 ghost use Rattle.rules.specs.Triangles.{doubled_area, sample};
-ghost use Rattle.rules.specs.Numbers.{in_signed32, vertices_in_range};
+ghost use Rattle.rules.specs.Numbers.{in_signed32};
 ghost use Rattle.interpolation.specs.Answers.{through_of};
 ghost use Rattle.interpolation.specs.Interpolation.{PassesThrough, in_units, numerator, numerator_a, numerator_b, rounded_down};
 ghost use Rattle.interpolation.specs.Interpolation.{through_a, through_b, through_c, through_number, value_in_range, values_in_range};
-ghost use Rattle.through.specs.Through.{CanDivide, InRange, Small, determinant};
+ghost use Rattle.through.specs.Through.{CanDivide, Small, determinant, folded};
 
-use edges::ranges::vertices_in_range;
+use edges::corners::Corners;
 use edges::values::SAMPLE_OFFSET;
 use interpolation::Values;
 use rules::{Plane, Refusal, Vertices};
@@ -44,20 +44,27 @@ fn determinant(p1: i32, p2: i32, p3: i32, q1: i32, q2: i32, q3: i32) -> i64
     (p2 as i64 - p) * (q3 as i64 - q) - (p3 as i64 - p) * (q2 as i64 - q)
 }
 
-fn doubled_area(v: Vertices) -> i64
-    requires { vertices_in_range v ≡ true }
-    ensures { result ≡ doubled_area v }
+fn doubled_area(corners: Corners) -> i64
+    ensures { result ≡ doubled_area corners.vertices }
 {
+    let v = corners.vertices;
     determinant(v.x1, v.x2, v.x3, v.y1, v.y2, v.y3)
 }
 
-// n / d rounded down.
-#[tactic(auto, using(crate::proofs::Rounded::rounds_down))]
+// -1 - n where it is to be folded, at the middle between 0 and -1.
+fn folded(n: i64, fold: bool) -> i64
+    ensures { result ≡ folded fold n }
+{
+    if fold { !n } else { n }
+}
+
+// n / d rounded down. Division rounds toward zero, so a negative n is folded first, and its quotient folded back.
 fn rounded_down(n: i64, d: i64) -> i64
     requires { CanDivide n d }
     ensures { result ≡ rounded_down n d }
 {
-    n.div_euclid(d)
+    let below = n < 0;
+    folded(folded(n, below) / d, below)
 }
 
 fn signed32(z: i64) -> Result<i32, Refusal>
@@ -72,91 +79,89 @@ fn signed32(z: i64) -> Result<i32, Refusal>
 // What has a plane where its numbers fit 32 bits: vertices and values in range, and a doubled area above 0.
 #[derive(Clone, Copy)]
 struct Solvable {
-    vertices: Vertices,
+    corners: Corners,
     values: Values,
     area: i64,
-    ghost in_range: { InRange vertices values },
-    ghost is_area: { area ≡ doubled_area vertices },
-    ghost positive: { pos 0 <ℤ doubled_area vertices },
+    ghost in_range: { values_in_range values ≡ true },
+    ghost is_area: { area ≡ doubled_area corners.vertices },
+    ghost positive: { pos 0 <ℤ doubled_area corners.vertices },
 }
 
 impl Solvable {
     #[tactic(auto, using(crate::proofs::Answers::six_first, crate::proofs::Answers::nine_by_values, crate::proofs::Answers::nine_by_area))]
     fn new(vertices: Vertices, values: Values) -> Result<Solvable, Refusal>
-        ensures vertices { IfOk result (λ s. s.vertices ≡ vertices) }
+        ensures vertices { IfOk result (λ s. s.corners.vertices ≡ vertices) }
         ensures values { IfOk result (λ s. s.values ≡ values) }
         ensures refuses { IfErr result (λ refusal. refusal_number refusal ≡ through_number vertices values) }
     {
-        if !vertices_in_range(vertices) {
-            return Err(Refusal::VertexOutOfRange);
-        }
+        let corners = Corners::new(vertices).ok_or(Refusal::VertexOutOfRange)?;
         if !values_in_range(values) {
             return Err(Refusal::NoPlane);
         }
-        let area = doubled_area(vertices);
+        let area = doubled_area(corners);
         if area <= 0 {
             return Err(Refusal::NoPlane);
         }
         Ok(Solvable {
-            vertices,
+            corners,
             values,
             area,
         })
     }
 
     fn numerator_a(self) -> i64
-        ensures { result ≡ numerator_a self.vertices self.values }
+        ensures { result ≡ numerator_a self.corners.vertices self.values }
     {
-        let Vertices { y1, y2, y3, .. } = self.vertices;
+        let Vertices { y1, y2, y3, .. } = self.corners.vertices;
         let Values { r1, r2, r3 } = self.values;
         determinant(r1, r2, r3, y1, y2, y3)
     }
 
     fn numerator_b(self) -> i64
-        ensures { result ≡ numerator_b self.vertices self.values }
+        ensures { result ≡ numerator_b self.corners.vertices self.values }
     {
-        let Vertices { x1, x2, x3, .. } = self.vertices;
+        let Vertices { x1, x2, x3, .. } = self.corners.vertices;
         let Values { r1, r2, r3 } = self.values;
         determinant(x1, x2, x3, r1, r2, r3)
     }
 
     // At the sample point of pixel (0, 0): the first value, and the way there from the first vertex.
     fn numerator(self) -> i64
-        ensures { result ≡ numerator self.vertices self.values (sample 0 0) }
+        ensures { result ≡ numerator self.corners.vertices self.values (sample 0 0) }
     {
-        let right = SAMPLE_OFFSET - self.vertices.x1 as i64;
-        let down = SAMPLE_OFFSET - self.vertices.y1 as i64;
+        let right = SAMPLE_OFFSET - self.corners.vertices.x1 as i64;
+        let down = SAMPLE_OFFSET - self.corners.vertices.y1 as i64;
         self.values.r1 as i64 * self.area + self.numerator_a() * right + self.numerator_b() * down
     }
 
     // Over the doubled area, in units, rounded down.
     fn over_area(self, n: i64) -> i64
         requires { nat_abs n ≤ 52792126865408 }
-        ensures { result ≡ rounded_down (in_units n) (doubled_area self.vertices) }
+        ensures { result ≡ rounded_down (in_units n) (doubled_area self.corners.vertices) }
     {
         rounded_down(65536 * n, self.area)
     }
 
     fn c(self) -> i64
-        ensures { result ≡ through_c self.vertices self.values }
+        ensures { result ≡ through_c self.corners.vertices self.values }
     {
         self.over_area(self.numerator()) + RAISE
     }
 
     fn a(self) -> i64
-        ensures { result ≡ through_a self.vertices self.values }
+        ensures { result ≡ through_a self.corners.vertices self.values }
     {
         self.over_area(8 * self.numerator_a())
     }
 
     fn b(self) -> i64
-        ensures { result ≡ through_b self.vertices self.values }
+        ensures { result ≡ through_b self.corners.vertices self.values }
     {
         self.over_area(8 * self.numerator_b())
     }
 
     fn plane(self) -> Result<Plane, Refusal>
-        ensures { PassesThrough self.vertices self.values (through_of result) }
+        ensures { PassesThrough self.corners.vertices self.values (through_of result) }
     {
         Ok(Plane {
             c: signed32(self.c())?,

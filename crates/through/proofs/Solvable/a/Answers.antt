@@ -18,4 +18,4 @@ unfolding through_a
 returns c =
     reads_back c.over_area.type_inv
     ∙ c.over_area.ensures
-    ∙ ap (λ (z : ℤ). rounded_down (in_units z) (doubled_area c.args.self.vertices)) (reads_as (eight_c c.numerator_a.ensures (a_within c.args.self)) tt)
+    ∙ ap (λ (z : ℤ). rounded_down (in_units z) (doubled_area c.args.self.corners.vertices)) (reads_as (eight_c c.numerator_a.ensures (a_within c.args.self)) tt)

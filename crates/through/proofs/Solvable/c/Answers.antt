@@ -12,15 +12,15 @@ use Rattle.through.proofs.Solvable.c.Goals as goal
 
 module _ (s : Solvable) where
   abbrev exact : ℤ
-  exact = numerator s.vertices s.values (sample 0 0)
+  exact = numerator s.corners.vertices s.values (sample 0 0)
 
   -- of what the two calls answer
-  abbrev raised_c : {z q : ℤ} → z ≡ exact → q ≡ rounded_down (in_units (to_z w64 (of_z w64 z))) (doubled_area s.vertices) → Code w64
+  abbrev raised_c : {z q : ℤ} → z ≡ exact → q ≡ rounded_down (in_units (to_z w64 (of_z w64 z))) (doubled_area s.corners.vertices) → Code w64
   raised_c e k =
       known
       (got_answer
-      (k ∙ ap (λ (z : ℤ). rounded_down (in_units z) (doubled_area s.vertices)) (answered e (numerator_within s) tt))
-      (units_within s.vertices (numerator_within s))
+      (k ∙ ap (λ (z : ℤ). rounded_down (in_units z) (doubled_area s.corners.vertices)) (answered e (numerator_within s) tt))
+      (units_within s.corners.vertices (numerator_within s))
       tt)
       ⊞ known (got_lit w64 1119 tt)
 

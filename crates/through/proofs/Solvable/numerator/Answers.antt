@@ -26,21 +26,21 @@ module _ (s : Solvable) where
   abbrev first_c : Code w64
   first_c = r1_c ⊠ known (got_in (area_is_within s) tt)
 
-  abbrev second_c : {z : ℤ} → z ≡ numerator_a s.vertices s.values → Code w64
+  abbrev second_c : {z : ℤ} → z ≡ numerator_a s.corners.vertices s.values → Code w64
   second_c e = known (got_answer e (a_within s) tt) ⊠ (offset_c ⊟ x1_c)
 
-  abbrev third_c : {z : ℤ} → z ≡ numerator_b s.vertices s.values → Code w64
+  abbrev third_c : {z : ℤ} → z ≡ numerator_b s.corners.vertices s.values → Code w64
   third_c e = known (got_answer e (b_within s) tt) ⊠ (offset_c ⊟ y1_c)
 
-  abbrev all_c : {y z : ℤ} → y ≡ numerator_a s.vertices s.values → z ≡ numerator_b s.vertices s.values → Code w64
+  abbrev all_c : {y z : ℤ} → y ≡ numerator_a s.corners.vertices s.values → z ≡ numerator_b s.corners.vertices s.values → Code w64
   all_c e f = (first_c ⊞ second_c e) ⊞ third_c f
 
-  sum : {y z : ℤ} (e : y ≡ numerator_a s.vertices s.values) (f : z ≡ numerator_b s.vertices s.values)
-      → meant (all_c e f) ≡ numerator s.vertices s.values (sample 0 0)
+  sum : {y z : ℤ} (e : y ≡ numerator_a s.corners.vertices s.values) (f : z ≡ numerator_b s.corners.vertices s.values)
+      → meant (all_c e f) ≡ numerator s.corners.vertices s.values (sample 0 0)
   unfolding sample
   sum e f =
       ap (λ (d : ℤ). s.values.r1 *ℤ d +ℤ meant (second_c e) +ℤ meant (third_c f)) s.is_area
-      ∙ sym (by_differences s.vertices s.values (sample 0 0))
+      ∙ sym (by_differences s.corners.vertices s.values (sample 0 0))
 
 pub overflow_mul-result : goal.overflow_mul-result
 overflow_mul-result c = need (first_c c.args.self) tt

@@ -22,4 +22,4 @@ returns c =
     let u = (within s).values in
     reads_back c.determinant.type_inv
     ∙ determinant-answer c.determinant.ensures u.r1 u.r2 u.r3 w.y1 w.y2 w.y3 (omega arith) (omega arith)
-    ∙ sym (a-by-differences s.vertices s.values)
+    ∙ sym (a-by-differences s.corners.vertices s.values)

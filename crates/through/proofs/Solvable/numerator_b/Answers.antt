@@ -22,4 +22,4 @@ returns c =
     let u = (within s).values in
     reads_back c.determinant.type_inv
     ∙ determinant-answer c.determinant.ensures w.x1 w.x2 w.x3 u.r1 u.r2 u.r3 (omega arith) (omega arith)
-    ∙ sym (b-by-differences s.vertices s.values)
+    ∙ sym (b-by-differences s.corners.vertices s.values)

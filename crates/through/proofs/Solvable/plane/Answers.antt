@@ -10,19 +10,19 @@ use Rattle.through.proofs.Solvable.plane.Goals as goal
 pub returns-in_err-signed32 : goal.returns-in_err-signed32
 returns-in_err-signed32 c =
     let s = c.args.self in
-    let is : through_number s.vertices s.values ≡ 9 = lacking s (c_outside (judged c.c.ensures c.c.type_inv c.in_err-signed32.ensures.outside)) in
+    let is : through_number s.corners.vertices s.values ≡ 9 = lacking s (c_outside (judged c.c.ensures c.c.type_inv c.in_err-signed32.ensures.outside)) in
     grind (arith, common_steps)
 
 pub returns-in_err-signed32-2 : goal.returns-in_err-signed32-2
 returns-in_err-signed32-2 c =
     let s = c.args.self in
-    let is : through_number s.vertices s.values ≡ 9 = lacking s (a_outside (judged c.a.ensures c.a.type_inv c.in_err-signed32-2.ensures.outside)) in
+    let is : through_number s.corners.vertices s.values ≡ 9 = lacking s (a_outside (judged c.a.ensures c.a.type_inv c.in_err-signed32-2.ensures.outside)) in
     grind (arith, common_steps)
 
 pub returns-in_err-signed32-3 : goal.returns-in_err-signed32-3
 returns-in_err-signed32-3 c =
     let s = c.args.self in
-    let is : through_number s.vertices s.values ≡ 9 = lacking s (b_outside (judged c.b.ensures c.b.type_inv c.in_err-signed32-3.ensures.outside)) in
+    let is : through_number s.corners.vertices s.values ≡ 9 = lacking s (b_outside (judged c.b.ensures c.b.type_inv c.in_err-signed32-3.ensures.outside)) in
     grind (arith, common_steps)
 
 pub returns : goal.returns
