@@ -19,8 +19,7 @@ use Rattle.rules.specs.Triangles.{Edge, dx, dy, edge1, edge2, edge3, sample, ins
 use Rattle.rules.specs.Numbers.{vertices_in_range}
 use Rattle.rules.proofs.Choices.{not_leb}
 use Rattle.cover.specs.declared.Side.{Side}
-use Rattle.cover.specs.declared.Sides.{Sides}
-use Rattle.cover.specs.declared.Crossings.{Crossings}
+use Rattle.cover.specs.declared.Three.{Three}
 use Rattle.cover.specs.Units.{unit, raise, lift, Rounded}
 use Rattle.cover.specs.Side.{sided, rising, across, times, scale, down}
 use Rattle.cover.specs.Side.{SideOf, SidesOf, CrossingOf, CrossingsOf, Addable, CanGoBelow}
@@ -209,7 +208,7 @@ can_go_below e w y h d m o k =
       high = omega (arith, rounded_high k 8700000000000000000 v s, rounded_high o.is_down 5629499534213120 u s);
     }
 
-pub crossings_can_go_below : (t : Vertices) → vertices_in_range t ≡ true → (y : ℕ) → y ≤ 512 → (d : Sides) (m : Crossings)
+pub crossings_can_go_below : (t : Vertices) → vertices_in_range t ≡ true → (y : ℕ) → y ≤ 512 → (d : Three Side) (m : Three ℕ)
     → SidesOf t d
     → CrossingsOf t y m
     → CanGoBelow m d

@@ -11,8 +11,7 @@ use Rattle.rules.specs.Folds.{choose}
 use Rattle.rules.specs.Triangles.{Edge, edge1, edge2, edge3, sample, inside, inside_all}
 use Rattle.rules.specs.Numbers.{vertices_in_range}
 use Rattle.cover.specs.declared.Side.{Side}
-use Rattle.cover.specs.declared.Sides.{Sides}
-use Rattle.cover.specs.declared.Crossings.{Crossings}
+use Rattle.cover.specs.declared.Three.{Three}
 use Rattle.cover.specs.Units.{unit, raise}
 use Rattle.cover.specs.Side.{SideOf, SidesOf, CrossingOf, CrossingsOf}
 use Rattle.cover.specs.Spans.{begin, end, column, RowSpan}
@@ -63,19 +62,19 @@ end_ge m true g = chosen (λ (k : ℕ). g ≤ k) (ltb g m) m g (λ t. omega (ari
 
 -- of the three edges
 
-abbrev pub least_of : Crossings → Sides → ℕ
+abbrev pub least_of : Three ℕ → Three Side → ℕ
 least_of m d = begin m.p d.p.ends (begin m.q d.q.ends (begin m.r d.r.ends raise))
 
-abbrev pub most_of : Crossings → Sides → ℕ → ℕ
+abbrev pub most_of : Three ℕ → Three Side → ℕ → ℕ
 most_of m d w = end m.p d.p.ends (end m.q d.q.ends (end m.r d.r.ends (raise - unit * w)))
 
-pub least_le : (m : Crossings) (d : Sides) → least_of m d ≤ raise
+pub least_le : (m : Three ℕ) (d : Three Side) → least_of m d ≤ raise
 least_le m d =
     let c = begin m.r d.r.ends raise in
     let b = begin m.q d.q.ends c in
     omega (arith, begin-le m.r d.r.ends raise, begin-le m.q d.q.ends c, begin-le m.p d.p.ends b)
 
-pub most_ge : (m : Crossings) (d : Sides) (w : ℕ) → raise - unit * w ≤ most_of m d w
+pub most_ge : (m : Three ℕ) (d : Three Side) (w : ℕ) → raise - unit * w ≤ most_of m d w
 most_ge m d w =
     let c = end m.r d.r.ends (raise - unit * w) in
     let b = end m.q d.q.ends c in
@@ -108,7 +107,7 @@ sorted true true true true true true = refl
 sorted true true true true true false = refl
 
 module _ (t : Vertices) (y : ℕ) (v : vertices_in_range t ≡ true) (i : y ≤ 480)
-    (d : Sides) (m : Crossings) (o : SidesOf t d) (h : CrossingsOf t y m) (w : ℕ) (k : w ≤ 640) where
+    (d : Three Side) (m : Three ℕ) (o : SidesOf t d) (h : CrossingsOf t y m) (w : ℕ) (k : w ≤ 640) where
   all_inside : (x : ℕ) → x < w → inside_all t (sample x y) ≡ leb raise (unit * x + least_of m d) && ltb (unit * x + most_of m d w) raise
   unfolding inside_all
   all_inside x l =

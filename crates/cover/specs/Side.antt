@@ -6,8 +6,7 @@ use Rattle.rules.specs.declared.Vertices.{Vertices}
 use Rattle.rules.specs.Folds.{choose}
 use Rattle.rules.specs.Triangles.{Edge, dx, dy, edge1, edge2, edge3, edge_value, sample, keeps_zero, positive, is_zero}
 use Rattle.cover.specs.declared.Side.{Side}
-use Rattle.cover.specs.declared.Sides.{Sides}
-use Rattle.cover.specs.declared.Crossings.{Crossings}
+use Rattle.cover.specs.declared.Three.{Three}
 use Rattle.cover.specs.Units.{unit, raise, lift, Rounded}
 
 -- what an edge's value loses where its zeros are outside
@@ -48,7 +47,7 @@ pub record SideOf (e : Edge) (d : Side) : Type 0 where
   pub is_down : Rounded (scale (dy e) *ℤ down (dx e) (dy e)) (across (dy e)) lift 1 d.down
   pub is_ends : d.ends ≡ positive (dy e)
 
-pub record SidesOf (v : Vertices) (d : Sides) : Type 0 where
+pub record SidesOf (v : Vertices) (d : Three Side) : Type 0 where
   pub of1 : SideOf (edge1 v) d.p
   pub of2 : SideOf (edge2 v) d.q
   pub of3 : SideOf (edge3 v) d.r
@@ -57,7 +56,7 @@ pub record SidesOf (v : Vertices) (d : Sides) : Type 0 where
 abbrev pub CrossingOf : Edge → ℕ → ℕ → Type 0
 CrossingOf e y m = Rounded (scale (dy e) *ℤ rising e 0 y) (across (dy e)) raise (y + 1) m
 
-pub record CrossingsOf (v : Vertices) (y : ℕ) (m : Crossings) : Type 0 where
+pub record CrossingsOf (v : Vertices) (y : ℕ) (m : Three ℕ) : Type 0 where
   pub of1 : CrossingOf (edge1 v) y m.p
   pub of2 : CrossingOf (edge2 v) y m.q
   pub of3 : CrossingOf (edge3 v) y m.r
@@ -67,7 +66,7 @@ pub record Addable (m down : ℕ) : Type 0 where
   pub low : lift ≤ m + down
   pub high : m + down < 18446744073709551616
 
-pub record CanGoBelow (m : Crossings) (d : Sides) : Type 0 where
+pub record CanGoBelow (m : Three ℕ) (d : Three Side) : Type 0 where
   pub first : Addable m.p d.p.down
   pub second : Addable m.q d.q.down
   pub third : Addable m.r d.r.down

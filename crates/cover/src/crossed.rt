@@ -7,7 +7,7 @@ ghost use Rattle.cover.specs.Side.{SidesOf, CrossingOf, CrossingsOf, CanGoBelow}
 use crate::setup::rising_value;
 use crate::ticks::in_ticks;
 use crate::units::{LIFT, RAISE};
-use crate::{Crossings, Sides};
+use crate::{Crossings, Sides, Three};
 use edges::corners::Corners;
 use edges::values::Edge;
 
@@ -27,7 +27,7 @@ pub fn crossings_at(c: Corners, y: u32) -> Crossings
     requires { y ≤ 512 }
     ensures { CrossingsOf c.vertices y result }
 {
-    Crossings {
+    Three {
         p: crossing(c.edge1(), y),
         q: crossing(c.edge2(), y),
         r: crossing(c.edge3(), y),
@@ -39,7 +39,7 @@ pub fn crossings_below(m: Crossings, d: Sides) -> Crossings
     requires { CanGoBelow m d }
     ensures { (v : Vertices) (y : ℕ) → SidesOf v d → CrossingsOf v y m → CrossingsOf v (y + 1) result }
 {
-    Crossings {
+    Three {
         p: m.p + d.p.down - LIFT,
         q: m.q + d.q.down - LIFT,
         r: m.r + d.r.down - LIFT,

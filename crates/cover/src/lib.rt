@@ -15,18 +15,15 @@ pub struct Side {
     pub ends: bool,
 }
 
-// The sides of a triangle's three edges.
+// One of each edge of a triangle, in the vertices' order.
 #[derive(Clone, Copy)]
-pub struct Sides {
-    pub p: Side,
-    pub q: Side,
-    pub r: Side,
+pub struct Three<T> {
+    pub p: T,
+    pub q: T,
+    pub r: T,
 }
 
+pub type Sides = Three<Side>;
+
 // How far before column 0 each edge crosses a row, in ticks of a column, rounded up and raised by RAISE.
-#[derive(Clone, Copy)]
-pub struct Crossings {
-    pub p: u64,
-    pub q: u64,
-    pub r: u64,
-}
+pub type Crossings = Three<u64>;

@@ -1,30 +1,29 @@
 // From vertices to sides.
 ghost use Rattle.std.specs.Prelude.{◌≡◌, ◌≤◌, nat_abs};
+ghost use Rattle.rules.specs.Triangles.{keeps_zero};
 ghost use Rattle.edges.specs.Corners.{edge_of};
 ghost use Rattle.cover.specs.Side.{loss, rising_value, down, SideOf, SidesOf};
 
 use crate::ticks::in_ticks;
 use crate::units::LIFT;
-use crate::{Side, Sides};
+use crate::{Side, Sides, Three};
 use edges::corners::Corners;
 use edges::values::Edge;
 
-// What an edge's value loses where its zeros are outside.
+// Whether an edge's zeros are inside.
 #[tactic(auto, unfolding(rules::specs::Triangles::keeps_zero))]
+fn keeps_zero(dx: i64, dy: i64) -> bool
+    ensures { result ≡ keeps_zero dx dy }
+{
+    (dy < 0) | (dy == 0) & (0 < dx)
+}
+
+// What an edge's value loses where they are outside.
 pub fn loss(dx: i64, dy: i64) -> i64
     ensures lost { result ≡ loss dx dy }
     ensures bound { nat_abs result ≤ 1 }
 {
-    if 0 < dy {
-        return 1;
-    }
-    if dy < 0 {
-        return 0;
-    }
-    if 0 < dx {
-        return 0;
-    }
-    1
+    if keeps_zero(dx, dy) { 0 } else { 1 }
 }
 
 // An edge's value v, lowered, with the sign that makes it rise along a row.
@@ -45,10 +44,7 @@ fn down(dx: i64, dy: i64) -> i64
     requires { nat_abs dx ≤ 16384 }
     ensures { result ≡ down dx dy }
 {
-    if 0 < dy {
-        return 0 - 8 * dx;
-    }
-    8 * dx
+    if 0 < dy { -8 * dx } else { 8 * dx }
 }
 
 // The side of an edge.
@@ -67,7 +63,7 @@ fn side(e: Edge) -> Side
 pub fn sides(c: Corners) -> Sides
     ensures { SidesOf c.vertices result }
 {
-    Sides {
+    Three {
         p: side(c.edge1()),
         q: side(c.edge2()),
         r: side(c.edge3()),
