@@ -27,16 +27,13 @@ pub fn loss(dx: i64, dy: i64) -> i64
 }
 
 // An edge's value v, lowered, with the sign that makes it rise along a row.
-#[tactic(auto, unfolding(crate::specs::Side::lowered))]
+#[tactic(auto, using(std::proofs::lemmas::Int::ints, std::proofs::lemmas::Int::wraps), unfolding(crate::specs::Side::lowered))]
 pub fn rising_value(v: i64, dx: i64, dy: i64) -> i64
     requires { nat_abs v ≤ 419659776 }
     ensures { result ≡ rising_value v dx dy }
 {
     let lowered = v - loss(dx, dy);
-    if 0 < dy {
-        return -1 - lowered;
-    }
-    lowered
+    if 0 < dy { -1 - lowered } else { lowered }
 }
 
 // What one row adds to the rising value.
