@@ -1,15 +1,15 @@
 -- Laws of one edge along the pixels: its lowered value is an affine function of the pixel, stays within 32 bits, is not negative exactly
 -- inside, and rises or falls along a row. Everything is said once over the edge.
 use Prim.Native.Nat.{ℕ, zero, suc, ◌+◌, ◌≤◌}
-use mathlib.Core.Path.{◌≡◌, refl}
+use mathlib.Core.Path.{◌≡◌, refl, sym, ◌∙◌, ap}
 use mathlib.Core.List.{List, [], ◌∷◌}
 use mathlib.Core.Bool.{Bool, true, false, ◌&&◌, ◌||◌}
 use native.Mathlib.Omega.{arith}
 use lib.IntN.{ℤ, pos, negsuc, ◌+ℤ◌, ◌-ℤ◌, ◌*ℤ◌}
-use lib.Signed.{non_neg, ◌≤ℤ◌}
+use lib.Signed.{non_neg, le_z, ◌≤ℤ◌}
 use borrow.Author.Tests.{lt-ltb, le-ltb}
 use Rattle.ints.proofs.Poly.{Exp, var, con, ◌⊕◌, ◌⊖◌, ◌⊗◌, solve}
-use Rattle.ints.proofs.Order.{non_neg_true, non_neg_false, le_of, le_to, lt_to, mul_nonneg, pos-le}
+use Rattle.ints.proofs.Order.{non_neg_is, non_neg_true, non_neg_false, le_of, le_to, lt_to, mul_nonneg, pos-le}
 use Rattle.ints.proofs.Bounds.{Within, within_pos, within_lit, within_sub, within_mul}
 use Rattle.rules.specs.Folds.{choose}
 use Rattle.rules.specs.Triangles.{Edge, dx, dy, edge_value, sample_offset, sample, keeps_zero, inside, positive, is_zero}
@@ -26,9 +26,15 @@ not_negative (pos (suc n)) false = rw (le-ltb (suc n) 1 (omega arith))
 not_negative (negsuc n) true = rw (lt-ltb 0 (suc n) (omega arith))
 not_negative (negsuc n) false = refl
 
-pub inside-sided : (e : Edge) (x y : ℕ) → inside e (sample x y) ≡ non_neg (sided e x y)
+pub inside_sided : (e : Edge) (x y : ℕ) → inside e (sample x y) ≡ non_neg (sided e x y)
 unfolding inside lowered
-inside-sided e x y = not_negative (edge_value e (sample x y)) (keeps_zero (dx e) (dy e))
+inside_sided e x y = not_negative (edge_value e (sample x y)) (keeps_zero (dx e) (dy e))
+
+-- as the code tests it
+pub inside_tested : (e : Edge) (x y : ℕ) {z : ℤ} → z ≡ edge_value e (sample x y) -ℤ loss (dx e) (dy e)
+    → le_z (pos 0) z ≡ inside e (sample x y)
+unfolding lowered
+inside_tested e x y h = ap (le_z (pos 0)) h ∙ sym (inside_sided e x y ∙ non_neg_is (sided e x y))
 
 -- an affine function of the pixel
 

@@ -24,7 +24,7 @@ use Rattle.cover.specs.Units.{unit, raise, lift, Rounded}
 use Rattle.cover.specs.Side.{sided, rising, across, times, scale, down}
 use Rattle.cover.specs.Side.{SideOf, SidesOf, CrossingOf, CrossingsOf, Addable, CanGoBelow}
 use Rattle.edges.proofs.Within.{EdgeWithin, edge_within, edges_in_range}
-use Rattle.cover.proofs.Along.{inside-sided, slope, sided-right, sided-down, sided_within, level_within}
+use Rattle.cover.proofs.Along.{inside_sided, slope, sided-right, sided-down, sided_within, level_within}
 use Rattle.cover.proofs.Quotients.{rounded_crosses, rounded_sum, rounded_low, rounded_high}
 
 -- signs
@@ -140,7 +140,7 @@ module _ (e : Edge) (w : EdgeWithin e) (y : ℕ) (l : y ≤ 480) (m : ℕ) (h : 
   -- from the crossing on, or up to it
   pub crossing_inside : (x : ℕ) → x < 640
       → inside e (sample x y) ≡ choose (positive (dy e)) (ltb (unit * x + m) raise) (leb raise (unit * x + m))
-  crossing_inside x k = inside-sided e x y ∙ go (positive (dy e)) refl
+  crossing_inside x k = inside_sided e x y ∙ go (positive (dy e)) refl
     where
       rises : (b : Bool) → positive (dy e) ≡ b → non_neg (choose b (negsuc 0 -ℤ sided e x y) (sided e x y)) ≡ leb raise (unit * x + m)
       rises b j =

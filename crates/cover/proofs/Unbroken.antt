@@ -15,20 +15,20 @@ use Rattle.rules.specs.Sizes.{width}
 use Rattle.rules.specs.Triangles.{Edge, edge1, edge2, edge3, sample, inside, inside_all, covered, on_screen}
 use Rattle.cover.specs.Side.{sided}
 use Rattle.rules.proofs.Choices.{and_true}
-use Rattle.cover.proofs.Along.{inside-sided, slope, rises, falls}
+use Rattle.cover.proofs.Along.{inside_sided, slope, rises, falls}
 
 module _ (e : Edge) (a b c y : ℕ) (h : a ≤ b) (k : b ≤ c) where
   edge_between_lem : inside e (sample a y) ≡ true → inside e (sample c y) ≡ true → inside e (sample b y) ≡ true
-  edge_between_lem p q = inside-sided e b y ∙ le_non_neg (sided e b y) (go (non_neg (slope e)) refl)
+  edge_between_lem p q = inside_sided e b y ∙ le_non_neg (sided e b y) (go (non_neg (slope e)) refl)
     where
       go : (s : Bool) → non_neg (slope e) ≡ s → pos 0 ≤ℤ sided e b y
       go true s =
           let i : a + (b - a) ≡ b = omega arith in
-          ≤ℤ-trans (non_neg_true (sided e a y) (sym (inside-sided e a y) ∙ p))
+          ≤ℤ-trans (non_neg_true (sided e a y) (sym (inside_sided e a y) ∙ p))
           (subst (λ (n : ℕ). sided e a y ≤ℤ sided e n y) i (rises e a (b - a) y s))
       go false s =
           let i : b + (c - b) ≡ c = omega arith in
-          ≤ℤ-trans (non_neg_true (sided e c y) (sym (inside-sided e c y) ∙ q))
+          ≤ℤ-trans (non_neg_true (sided e c y) (sym (inside_sided e c y) ∙ q))
           (subst (λ (n : ℕ). sided e n y ≤ℤ sided e b y) i (falls e b (c - b) y s))
 
 inside-between : (t : Vertices) (a b c y : ℕ) → a ≤ b → b ≤ c

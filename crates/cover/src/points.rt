@@ -18,6 +18,7 @@ fn inside(e: Edge, x: u32, y: u32) -> bool
     0 <= e.value(x, y) - loss(dx, dy)
 }
 
+#[tactic(auto, unfolding(rules::specs::Triangles::inside_all))]
 pub fn inside_all(c: Corners, x: u32, y: u32) -> bool
     requires columns { x ≤ 640 }
     requires rows { y ≤ 512 }
