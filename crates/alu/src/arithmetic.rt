@@ -7,11 +7,10 @@ ghost use Rattle.rules.specs.Folds.{choose};
 use crate::signed::signed;
 use words::low32;
 
-// No difference falls below zero: 2^32 is added first.
 pub fn difference(a: u32, b: u32) -> u32
     ensures { result ≡ difference a b }
 {
-    ((a as u64 + (4294967296 - b as u64)) % 4294967296) as u32
+    a.wrapping_sub(b)
 }
 
 // A signed shift rounds down, also below zero.
@@ -22,6 +21,7 @@ pub fn rounded_product(a: u32, b: u32) -> u32
 }
 
 // A signed quotient rounds toward zero.
+#[tactic(auto, unfolding(instructions::specs::Arithmetic::reciprocal))]
 pub fn reciprocal(a: u32) -> u32
     ensures { result ≡ reciprocal a }
 {
@@ -31,40 +31,31 @@ pub fn reciprocal(a: u32) -> u32
     low32(2147483647 / signed(a))
 }
 
-// A word can be shifted by 31 at most, so the shifts go by k % 32. Below 32 that is k; from there on `otherwise` is the answer.
-fn unless_long(k: u32, shifted: u32, otherwise: u32) -> u32
-    ensures { result ≡ choose (ltb k 32) shifted otherwise }
-{
-    if k < 32 {
-        return shifted;
-    }
-    otherwise
-}
-
+#[tactic(auto, unfolding(instructions::specs::Arithmetic::shifted_left), using(instructions::proofs::Shifts::lsl_from_32))]
 pub fn shifted_left(a: u32, k: u32) -> u32
     ensures { result ≡ shifted_left a k }
 {
-    unless_long(k, a << (k % 32), 0)
+    a.checked_shl(k).unwrap_or(0)
 }
 
+#[tactic(auto, unfolding(instructions::specs::Arithmetic::shifted_right), using(instructions::proofs::Shifts::lsr_from_32))]
 pub fn shifted_right(a: u32, k: u32) -> u32
     ensures { result ≡ shifted_right a k }
 {
-    unless_long(k, a >> (k % 32), 0)
+    a.checked_shr(k).unwrap_or(0)
 }
 
 // By 32 nothing is left but the sign.
 pub fn shifted_signed(a: u32, k: u32) -> u32
     ensures { result ≡ shifted_signed a k }
 {
-    let wide = signed(a);
-    unless_long(k, low32(wide >> (k % 32)), low32(wide >> 32))
+    low32(signed(a) >> k.min(32))
 }
 
 pub fn negative_flag(v: u32) -> bool
     ensures { result ≡ negative_flag v }
 {
-    2147483648 <= v
+    v.cast_signed() < 0
 }
 
 pub fn zero_flag(v: u32) -> bool

@@ -62,24 +62,22 @@ const RECIPROCALS: [u32; 512] = [
     4252442, 4244038, 4235667, 4227330, 4219024, 4210752, 4202512, 4194303,
 ];
 
-// A copy: whoever runs many steps makes one, and lends it to all of them.
-pub fn reciprocals() -> [u32; 512]
-    ensures { (length result ≡ 512) × Reciprocals result }
+static TABLE: [u32; 512] = RECIPROCALS;
+
+// Lent, and never copied.
+pub fn reciprocals() -> &'static [u32]
+    ensures size { length result.now ≡ 512 }
+    ensures rule { Reciprocals result.now }
 {
-    RECIPROCALS
+    &TABLE
 }
 
-// Where the table ends is a matter of time alone. Its end is asked for first: an operand past it then pays nothing for the table.
-pub fn recp(a: u32, table: &[u32]) -> u32
-    requires { Reciprocals table.now }
+// Where the table ends is a matter of time alone. One test serves for 0 and for its end: less 1, 0 is far past it.
+pub fn recp(a: u32) -> u32
     ensures { result ≡ reciprocal a }
 {
-    let d = a as usize;
-    if table.len() < d {
-        return reciprocal(a);
+    match reciprocals().get(a.wrapping_sub(1) as usize) {
+        Some(&entry) => entry,
+        None => reciprocal(a),
     }
-    if d == 0 {
-        return reciprocal(a);
-    }
-    table[d - 1]
 }

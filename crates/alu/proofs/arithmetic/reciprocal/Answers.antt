@@ -3,16 +3,12 @@ use mathlib.Core.Path.{◌∙◌, ap}
 use lib.IntN.{pos}
 use lib.Signed.{quot_z}
 use mir.Syntax.{w64}
-use borrow.Author.Tests.{eq-eqb, ne_eqb}
+use borrow.Author.Tests.{ne_eqb}
 use Rattle.ints.specs.Modulo.{mod32}
 use Rattle.ints.proofs.Machine.{got_lit, Code, known, quot, reads_as}
 use Rattle.instructions.specs.Arithmetic.{reciprocal}
 use Rattle.alu.proofs.Readings.{reading}
 use Rattle.alu.proofs.arithmetic.reciprocal.Goals as goal
-
-pub returns-then-a-eq0 : goal.returns-then-a-eq0
-unfolding reciprocal
-returns-then-a-eq0 c = rw (eq-eqb c.args.a 0 c.if-a-eq0.true)
 
 pub returns : goal.returns
 unfolding reciprocal

@@ -1,21 +1,26 @@
--- Moving up and down by 2^15 modulo 2^16 and 2^32 keeps a half below 2^15 and adds 2^32 less 2^16 to any other, as the definition's
--- test does.
-use Prim.Native.Nat.{ℕ, ◌+◌, ◌%◌}
-use mathlib.Core.Path.{◌≡◌, refl}
-use mathlib.Core.Bool.{Bool, true, false}
-use native.Mathlib.Omega.{arith}
-use lib.Dec.{ltb}
-use borrow.Author.Tests.{ltb-true, ltb-false}
-use Rattle.rules.specs.Folds.{choose}
+-- A half-word read as signed and held in 32 bits: a half below 2^15 stays, and any other gets 2^32 less 2^16.
+use Rattle.std.proofs.Common.{arith, ℕ, ◌≡◌, ◌<◌, ◌≤◌, ◌%◌, Bool, true, false, ltb, refl, ◌∙◌, ap, ℤ, w16, w32, to_z, of_z}
+use lib.Signed.{mag}
+use mir.ValLaws.{to_z-of_z}
+use borrow.Author.Tests.{ltb-false}
 use Rattle.instructions.specs.Words.{sign_extended}
 use Rattle.instructions.specs.Arithmetic.{immediate}
 use Rattle.alu.proofs.fields.immediate.Goals as goal
 
-moved : (n : ℕ) (t : Bool) → ltb (n % 65536) 32768 ≡ t
-    → ((n + 32768) % 65536 + 4294934528) % 4294967296 ≡ choose t (n % 65536) (n % 65536 + 4294901760)
-moved n true e = omega (arith, ltb-true (n % 65536) 32768 e)
-moved n false e = omega (arith, ltb-false (n % 65536) 32768 e)
+extended : (h : ℕ) → h < 65536 → of_z w32 (to_z w16 h) ≡ sign_extended h
+unfolding sign_extended
+extended h l = go (ltb h 32768) refl
+  where
+    go : (t : Bool) → ltb h 32768 ≡ t → of_z w32 (to_z w16 h) ≡ sign_extended h
+    go true e = rw e refl
+    go false e = let m : 32768 ≤ h = ltb-false h 32768 e in rw e (omega arith)
 
 pub returns : goal.returns
-unfolding immediate sign_extended
-returns c = moved c.args.n (ltb (c.args.n % 65536) 32768) refl
+unfolding immediate
+returns c =
+    let half = c.cast_signed.result in
+    let small : mag half < 32768 = c.cast_signed.type_inv in
+    c.cast_unsigned.ensures
+    ∙ ap (λ (z : ℤ). of_z w32 (to_z w32 (of_z w32 z))) (to_z-of_z w16 half (record { sfits = small }))
+    ∙ ap (of_z w32) (to_z-of_z w32 half (record { sfits = omega (arith, small) }) ∙ c.cast_signed.ensures)
+    ∙ extended (c.args.n % 65536) (omega arith)
