@@ -22,14 +22,12 @@ fn folded(z: i64) -> u64
 }
 
 // A whole number that is z / a or more, by 1 at most, raised by r.
+#[tactic(auto, using(std::proofs::lemmas::Int::ints, std::proofs::lemmas::Int::wraps, crate::proofs::Quotients::rounded_on, crate::proofs::Quotients::rounded_back))]
 pub fn rounded_up(z: i64, a: u64, r: u64) -> u64
     requires raisable { Raisable z r }
     requires divides { 1 ≤ a }
     ensures { Rounded z a r 1 result }
 {
     let on = folded(z) / a;
-    if z < 0 {
-        return r - on;
-    }
-    r + on + 1
+    if z < 0 { r - on } else { r + on + 1 }
 }

@@ -1,17 +1,18 @@
 -- The rising value, scaled, is within 64 bits, and its quotient has one rounding.
 use Prim.Native.Nat.{◌+◌}
-use mathlib.Core.Path.{◌≡◌, ◌∙◌, ap, ap₂, subst₂}
+use mathlib.Core.Path.{◌≡◌, ap, subst₂}
 use native.Mathlib.Omega.{arith}
-use lib.IntN.{ℤ, nat_abs, ◌*ℤ◌}
+use lib.IntN.{nat_abs, ◌*ℤ◌}
 use mir.Syntax.{w64}
 use mir.Val.{to_z, of_z}
+use Rattle.std.proofs.lemmas.Int.{to_z-of_z}
 use Rattle.ints.proofs.Machine.{Code, word_of, reads_as}
-use Rattle.rules.specs.Triangles.{Edge, dy, edge_value, sample}
+use Rattle.rules.specs.Triangles.{Edge, dy}
 use Rattle.edges.specs.Corners.{edge_of}
 use Rattle.edges.proofs.Within.{EdgeWithin, edge_within}
 use Rattle.edges.proofs.Codes.{answered}
 use Rattle.cover.specs.Units.{raise, Rounded}
-use Rattle.cover.specs.Side.{rising_value, rising, across, scale}
+use Rattle.cover.specs.Side.{rising, across, scale}
 use Rattle.cover.proofs.Signs.{scaled_read}
 use Rattle.cover.proofs.Quotients.{rounded_more}
 use Rattle.cover.proofs.Crossing.{rising_within, scaled_within}
@@ -25,18 +26,11 @@ module _ (c : After-rising_value) where
   in_range : EdgeWithin edge
   in_range = edge_within edge c.args.e.in_range
 
-  abbrev dx_c : Code w64
-  dx_c = answered c.dx-dx.ensures.distance c.dx-dx.ensures.bound tt
-
   abbrev dy_c : Code w64
   dy_c = answered c.dy-dy.ensures.distance c.dy-dy.ensures.bound tt
 
   is_rising : c.rising_value.result ≡ rising edge 0 c.args.y
-  is_rising =
-      c.rising_value.ensures
-      ∙ ap (λ (v : ℤ). rising_value v (to_z w64 (word_of dx_c)) (to_z w64 (word_of dy_c)))
-      (reads_as (answered c.value-v.ensures.value c.value-v.ensures.bound tt) tt)
-      ∙ ap₂ (rising_value (edge_value edge (sample 0 c.args.y))) (reads_as dx_c tt) (reads_as dy_c tt)
+  is_rising = grind (arith, to_z-of_z, c.rising_value.ensures)
 
   is_scaled : scale (to_z w64 (word_of dy_c)) *ℤ to_z w64 (of_z w64 c.rising_value.result) ≡ scale (dy edge) *ℤ rising edge 0 c.args.y
   is_scaled = scaled_read dy_c tt is_rising (rising_within edge in_range c.args.y c.requires) (omega arith)

@@ -1,9 +1,10 @@
 -- The differences are within their range, so what a row adds, scaled, is within 64 bits, and its quotient has one rounding.
-use mathlib.Core.Path.{◌≡◌, refl, sym, ◌∙◌, ap, ap₂, subst₂}
+use mathlib.Core.Path.{◌≡◌, refl, sym, ap, subst₂}
 use native.Mathlib.Omega.{arith}
 use lib.IntN.{nat_abs, ◌*ℤ◌}
 use mir.Syntax.{w64}
 use mir.Val.{to_z, of_z}
+use Rattle.std.proofs.lemmas.Int.{to_z-of_z}
 use Rattle.ints.proofs.Bounds.{Within, within_sub}
 use Rattle.ints.proofs.Machine.{Code, word_of, reads_as}
 use Rattle.rules.specs.Triangles.{Edge, dx, dy}
@@ -21,14 +22,11 @@ module _ (c : After-down) where
   abbrev edge : Edge
   edge = edge_of c.args.e
 
-  abbrev dx_c : Code w64
-  dx_c = answered c.dx-dx.ensures.distance c.dx-dx.ensures.bound tt
-
   abbrev dy_c : Code w64
   dy_c = answered c.dy-dy.ensures.distance c.dy-dy.ensures.bound tt
 
   is_down : c.down.result ≡ down (dx edge) (dy edge)
-  is_down = c.down.ensures ∙ ap₂ down (reads_as dx_c tt) (reads_as dy_c tt)
+  is_down = grind (arith, to_z-of_z, c.down.ensures)
 
   small : Within 16384 (dx edge)
   small = let w = edge_within edge c.args.e.in_range in within_sub w.in_x2 w.in_x1
