@@ -7,7 +7,10 @@ use mathlib.Core.List.{List}
 use native.Mathlib.Omega.{arith}
 use lib.ListN.{length}
 use borrow.Author.Tests.{lt-ltb, le-ltb, eq-eqb, ne_eqb}
+use Rattle.std.specs.Prelude.{Result, Ok, Err, IsErrAnd}
 use Rattle.rules.specs.Folds.{bit}
+use Rattle.instructions.specs.declared.Halt.{Halt}
+use Rattle.instructions.specs.Answers.{number_of_halt, halt_of}
 use Rattle.instructions.specs.Opcodes.{current}
 use Rattle.instructions.specs.Halts.{word_at, halt_number}
 use Rattle.instructions.specs.Step.{Machine, with_state, with_halt, is_halted, step}
@@ -17,35 +20,40 @@ use Rattle.instructions.proofs.Lengths.{step_keeps_lengths}
 use Rattle.instructions.proofs.WellFormed.{WellFormed, well_formed_facts, step_well_formed}
 use Rattle.pieces.specs.declared.state.Cpu.{Cpu}
 use Rattle.pieces.specs.declared.state.View.{View}
-use Rattle.pieces.specs.Pieces.{machine, stopped}
-use Rattle.pieces.specs.Steps.{stepped, Shows}
+use Rattle.pieces.specs.Pieces.{machine}
+use Rattle.pieces.specs.Steps.{stepped, left, Shows}
 use Rattle.runs.specs.Runs.{Ready, Ends}
 
 module _ (program : List ℕ) (m : Machine) (h : m.state.halt ≡ 0) where
   -- a step past the program, and one in it
-  pub step_past : length program ≤ m.state.place → with_state (with_halt 12 m.state) m ≡ step current program m
+  step_past : length program ≤ m.state.place → with_state (with_halt 12 m.state) m ≡ step current program m
   unfolding step halt_number
   step_past p = rw (h, le-ltb m.state.place (length program) p)
 
-  pub step_in : m.state.place < length program → stepped m (word_at program m.state) ≡ step current program m
+  step_in : m.state.place < length program → stepped m (word_at program m.state) ≡ step current program m
   unfolding step halt_number stepped
   step_in p = rw (h, lt-ltb m.state.place (length program) p)
+
+  pub step_at : (w : ℕ) → w ≡ word_at program m.state → m.state.place < length program → stepped m w ≡ step current program m
+  step_at w e p = ap (stepped m) e ∙ step_in p
 
   running : is_halted m ≡ false
   running = ap not (eq-eqb m.state.halt 0 h)
 
-pub stops_past : (program regs : List ℕ) (cpu : Cpu) (view : View) (memory ram : List ℕ)
-    → cpu.halt ≡ 0
+pub stops_past : (program regs : List ℕ) (cpu : Cpu) (view : View) (memory ram : List ℕ) (answer : Result Cpu Halt) (h : Halt)
+    → IsErrAnd answer (λ e. e ≡ h)
+    → number_of_halt h ≡ 12
     → length program ≤ cpu.place
-    → machine regs (stopped 12 cpu) view memory ram ≡ step current program (machine regs cpu view memory ram)
+    → machine regs (left cpu answer) (halt_of answer) view memory ram ≡ step current program (machine regs cpu 0 view memory ram)
 unfolding with_halt
-stops_past program regs cpu view memory ram h p = step_past program (machine regs cpu view memory ram) h p
+stops_past program regs cpu view memory ram (Ok next) h x e p = absurd x
+stops_past program regs cpu view memory ram (Err g) h x e p = rw (x, e) (step_past program (machine regs cpu 0 view memory ram) refl p)
 
 pub ready_facts : {program : List ℕ} {m : Machine} → Ready program m → WellFormed (length m.ram) m.state
 ready_facts r = well_formed_facts r.well_formed
 
 pub ready_shows : {program regs : List ℕ} {cpu : Cpu} {view : View} {memory ram : List ℕ}
-    → Ready program (machine regs cpu view memory ram)
+    → Ready program (machine regs cpu 0 view memory ram)
     → Shows (length ram) view
 ready_shows r =
     let f = ready_facts r in
@@ -78,7 +86,7 @@ module _ (program : List ℕ) (budget : ℕ) where
       }
 
 module _ {program : List ℕ} {budget : ℕ} {first : Machine} {done : ℕ} {m : Machine} (k : Kept program budget first done m) where
-  pub kept_end : budget ≤ done → Ends program budget first done m
+  pub kept_end : budget ≤ done → Ends program budget first budget m
   unfolding run steps
   kept_end h =
       let e : budget - done ≡ 0 = omega arith in

@@ -1,90 +1,119 @@
 // The machine's run: each step in turn, to the budget or to a halt.
 #![tactic(auto)]
 
+ghost use Rattle.std.specs.Prelude.{◌≡◌};
 ghost use Rattle.alu.specs.Reciprocals.{Reciprocals};
+ghost use Rattle.instructions.specs.Answers.{halt_of};
+ghost use Rattle.instructions.specs.Opcodes.{current};
+ghost use Rattle.instructions.specs.Step.{step};
 ghost use Rattle.pieces.specs.Pieces.{machine};
-ghost use Rattle.runs.specs.Runs.{Ends, Ready};
+ghost use Rattle.pieces.specs.Steps.{left};
+ghost use Rattle.runs.specs.Runs.{Ends, Ready, number_of_end};
 
 use alu::fields::opcode;
 use alu::reciprocals::reciprocals;
-use pieces::state::{Cpu, View, stopped};
+use instructions::Halt;
+use pieces::registers::Registers;
+use pieces::state::{Cpu, View};
 use steps::arms::{plain_step, view_step};
 use steps::opcodes::WRITE;
 
 // A run that is allowed so many steps copies the table: where it takes them all, that is about one in a hundred of its instructions.
 const LONG: u64 = 1024;
 
-// What a run leaves of the pieces by value, and the steps carried out.
+// What a run leaves of the small piece, the halt that ended it, if one did, and the steps carried out.
 #[derive(Clone, Copy)]
 pub struct Ended {
     pub cpu: Cpu,
-    pub view: View,
+    pub halt: Option<Halt>,
     pub steps: u64,
 }
 
-// A halting step ends the run, and is not counted. The two kinds of step end apart, so that one up to WRITE copies no tree.
+impl Ended {
+    // The state's number.
+    pub fn halt_number(&self) -> u32
+        ensures { result ≡ number_of_end self.now.halt }
+    {
+        match self.halt {
+            Some(halt) => u32::from(halt),
+            None => 0,
+        }
+    }
+}
+
+// One step, at the word of its place.
+fn step(
+    program: &[u32],
+    regs: &mut Registers,
+    memory: &mut [u32; 1024],
+    ram: &mut [u8],
+    cpu: Cpu,
+    view: &mut View,
+    table: &[u32],
+) -> Result<Cpu, Halt>
+    requires ready { Ready program.now (machine regs.old.words cpu 0 view.old memory.old ram.old) }
+    requires reciprocals { Reciprocals table.now }
+    ensures { machine regs.new.words (left cpu result) (halt_of result) view.new memory.new ram.new ≡ step current program.now (machine regs.old.words cpu 0 view.old memory.old ram.old) }
+{
+    let w = *program.get(cpu.place as usize).ok_or(Halt::PastProgram)?;
+    if opcode(w) <= WRITE {
+        return plain_step(w, regs, memory, ram, cpu, table);
+    }
+    view_step(w, regs, cpu, view, ram)
+}
+
+// A halting step ends the run, and is not counted.
 fn run_with(
     program: &[u32],
-    regs: &mut [u32; 32],
-    memory: &mut [u32],
+    regs: &mut Registers,
+    memory: &mut [u32; 1024],
     ram: &mut [u8],
     first: Cpu,
-    given: View,
+    view: &mut View,
     budget: u64,
     table: &[u32],
 ) -> Ended
-    requires { Ready program.now (machine regs.old first given memory.old ram.old) × Reciprocals table.now }
-    ensures { Ends program.now budget (machine regs.old first given memory.old ram.old) result.steps (machine regs.new result.cpu result.view memory.new ram.new) }
+    requires ready { Ready program.now (machine regs.old.words first 0 view.old memory.old ram.old) }
+    requires reciprocals { Reciprocals table.now }
+    ensures { Ends program.now budget (machine regs.old.words first 0 view.old memory.old ram.old) result.steps (machine regs.new.words result.cpu (number_of_end result.halt) view.new memory.new ram.new) }
 {
     let mut cpu = first;
-    let mut view = given;
-    let mut steps: u64 = 0;
-    if cpu.halt != 0 {
-        return Ended { cpu, view, steps };
-    }
-    while steps < budget {
-        let place = cpu.place as usize;
-        if program.len() <= place {
-            cpu = stopped(cpu, 12);
-            return Ended { cpu, view, steps };
-        }
-        let w = program[place];
-        if opcode(w) <= WRITE {
-            cpu = plain_step(w, regs, memory, ram, cpu, table);
-            if cpu.halt != 0 {
-                return Ended { cpu, view, steps };
+    for steps in 0..budget {
+        match step(program, regs, memory, ram, cpu, view, table) {
+            Ok(next) => cpu = next,
+            Err(halt) => {
+                return Ended {
+                    cpu,
+                    halt: Some(halt),
+                    steps,
+                };
             }
-            steps += 1;
-        } else {
-            let next = view_step(w, regs, cpu, view, ram);
-            cpu = next.cpu;
-            view = next.view;
-            if cpu.halt != 0 {
-                return Ended { cpu, view, steps };
-            }
-            steps += 1;
         }
     }
-    Ended { cpu, view, steps }
+    Ended {
+        cpu,
+        halt: None,
+        steps: budget,
+    }
 }
 
 // A run that may be long has its copy of the table, and lends it to all its steps. A shorter one lends them none, and they divide.
 pub fn run(
     program: &[u32],
-    regs: &mut [u32; 32],
+    regs: &mut Registers,
     memory: &mut [u32],
     ram: &mut [u8],
     first: Cpu,
-    given: View,
+    view: &mut View,
     budget: u64,
 ) -> Ended
-    requires { Ready program.now (machine regs.old first given memory.old ram.old) }
-    ensures { Ends program.now budget (machine regs.old first given memory.old ram.old) result.steps (machine regs.new result.cpu result.view memory.new ram.new) }
+    requires { Ready program.now (machine regs.old.words first 0 view.old memory.old ram.old) }
+    ensures { Ends program.now budget (machine regs.old.words first 0 view.old memory.old ram.old) result.steps (machine regs.new.words result.cpu (number_of_end result.halt) view.new memory.new ram.new) }
 {
+    let words = memory.as_mut_array().unwrap();
     if budget < LONG {
-        let none: [u32; 0] = [];
-        return run_with(program, regs, memory, ram, first, given, budget, &none);
+        return run_with(program, regs, words, ram, first, view, budget, &[]);
     }
     let table = reciprocals();
-    run_with(program, regs, memory, ram, first, given, budget, &table)
+    run_with(program, regs, words, ram, first, view, budget, &table)
 }
