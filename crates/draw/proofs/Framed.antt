@@ -14,9 +14,10 @@ use Rattle.rules.specs.Triangles.{sample, inside_all, covered, written, row_draw
 use Rattle.rules.proofs.Folds.{upto-none, upto_more, upto_still, how_many-none, how_many_same, pixels_more, pixels-le}
 use Rattle.rules.proofs.Pixels.{Sound, width-le, height-le}
 use Rattle.rules.proofs.Drawing.{length_rows, written_rows}
-use Rattle.rows.specs.Lines.{Line, line, covered_in, written_in, drawn_in, Drawing, drawing}
+use Rattle.rows.specs.Lines.{line, covered_in, written_in, drawn_in, Drawing, drawing}
 use Rattle.rows.specs.Rows.{Room, RowDone}
-use Rattle.cover.specs.declared.Span.{Span}
+use Rattle.std.specs.declared.ops.Range.{Range}
+use Rattle.rows.specs.declared.Line.{Line}
 use Rattle.draw.specs.Frames.{RowsTouched, FrameDone}
 use Rattle.rows.proofs.Stretch.{not_written, pixel_still}
 use Rattle.rows.proofs.Rowed.{outside_uncovered}
@@ -100,16 +101,16 @@ module _ {m₀ : List ℕ} {s : Screen} {t : Triangle} where
   down-last u = record { covers = u.is_covered; writes = u.is_written; leaves = u.is_memory }
 
 -- from the first touched row on, and past the last one
-module _ {m₀ : List ℕ} {s : Screen} {t : Triangle} (q : Sound (length m₀) s) {r : Span}
+module _ {m₀ : List ℕ} {s : Screen} {t : Triangle} (q : Sound (length m₀) s) {r : Range ℕ}
     (u : RowsTouched t.vertices (height s.size) r) where
-  pub down-first : Down m₀ s t (undrawn m₀) r.from
+  pub down-first : Down m₀ s t (undrawn m₀) r.start
   down-first =
-      subst (Down m₀ s t (undrawn m₀)) (zero-add r.from)
-      (down_skip q down-none r.from
+      subst (Down m₀ s t (undrawn m₀)) (zero-add r.start)
+      (down_skip q down-none r.start
       (omega (arith, u.ordered, u.limited))
       (λ x j h k. u.before x j (omega (arith, u.ordered, u.limited)) (omega arith)))
 
-  pub down_past : {d : Drawing} {y : ℕ} → Down m₀ s t d y → r.to ≤ y → FrameDone m₀ s t d
+  pub down_past : {d : Drawing} {y : ℕ} → Down m₀ s t d y → r.end ≤ y → FrameDone m₀ s t d
   down_past {d} {y} v h =
       let n = height s.size in
       let e : y + (n - y) ≡ n = omega (arith, v.before_end) in
