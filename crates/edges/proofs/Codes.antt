@@ -1,4 +1,4 @@
--- An edge's differences, and its numbers, as the machine computes them in 64 bits.
+-- The first vertex of an edge, and what callees answer, as the machine has them in 64 bits.
 use Prim.Native.Nat.{ℕ, ◌≤◌}
 use mathlib.Core.Path.{◌≡◌, subst}
 use lib.Dec.{T, ltb}
@@ -7,7 +7,7 @@ use mir.Syntax.{w32, w64}
 use mir.Val.{hbits}
 use Prim.Native.Nat.{◌^◌}
 use Rattle.ints.proofs.Bounds.{Within}
-use Rattle.ints.proofs.Machine.{got_in, got_lit, made, Code, known, cast, ◌⊟◌}
+use Rattle.ints.proofs.Machine.{got_in, got_lit, made, Code, known, cast}
 use Rattle.rules.specs.Triangles.{Edge, sample_offset}
 use Rattle.edges.proofs.Within.{EdgeWithin}
 
@@ -27,9 +27,3 @@ module _ (e : Edge) (w : EdgeWithin e) where
 
   abbrev pub y1_c : Code w64
   y1_c = cast w64 (known (got_in {w = w32} w.in_y1 tt))
-
-  abbrev pub dx_c : Code w64
-  dx_c = cast w64 (known (got_in {w = w32} w.in_x2 tt)) ⊟ x1_c
-
-  abbrev pub dy_c : Code w64
-  dy_c = cast w64 (known (got_in {w = w32} w.in_y2 tt)) ⊟ y1_c

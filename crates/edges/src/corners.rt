@@ -30,6 +30,7 @@ impl Corners {
     }
 
     // From the first vertex to the second.
+    #[tactic(auto, using(std::proofs::lemmas::Int::ints, std::proofs::lemmas::Int::wraps, crate::proofs::Within::edge1_in_range))]
     pub fn edge1(self) -> Edge
         ensures { edge_of result ≡ edge1 self.vertices }
     {
@@ -43,6 +44,7 @@ impl Corners {
     }
 
     // From the second to the third.
+    #[tactic(auto, using(std::proofs::lemmas::Int::ints, std::proofs::lemmas::Int::wraps, crate::proofs::Within::edge2_in_range))]
     pub fn edge2(self) -> Edge
         ensures { edge_of result ≡ edge2 self.vertices }
     {
@@ -56,6 +58,7 @@ impl Corners {
     }
 
     // From the third back to the first.
+    #[tactic(auto, using(std::proofs::lemmas::Int::ints, std::proofs::lemmas::Int::wraps, crate::proofs::Within::edge3_in_range))]
     pub fn edge3(self) -> Edge
         ensures { edge_of result ≡ edge3 self.vertices }
     {

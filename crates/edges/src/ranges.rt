@@ -16,7 +16,6 @@ fn vertex_in_range(v: i32) -> bool
 }
 
 // Number 6: whether all six vertex numbers are in range.
-#[tactic(auto, unfolding(rules::specs::Numbers::vertices_in_range))]
 pub fn vertices_in_range(v: Vertices) -> bool
     ensures { result ≡ vertices_in_range v }
 {
@@ -29,6 +28,7 @@ pub fn vertices_in_range(v: Vertices) -> bool
 }
 
 // Whether the edge value at pixel (x, y) leaves signed 32 bits.
+#[tactic(auto, using(std::proofs::lemmas::Int::ints, std::proofs::lemmas::Int::wraps, crate::proofs::Large::never_too_large))]
 fn pixel_too_large(e: Edge, x: u32, y: u32) -> bool
     requires columns { x ≤ 640 }
     requires rows { y ≤ 512 }
@@ -39,6 +39,7 @@ fn pixel_too_large(e: Edge, x: u32, y: u32) -> bool
 }
 
 // Whether it does so at some pixel of w columns and h rows: it is largest and least at the corners.
+#[tactic(auto, using(crate::proofs::Large::never_too_large, crate::proofs::Large::edge_never_too_large))]
 fn edge_too_large(e: Edge, w: u32, h: u32) -> bool
     requires some_columns { 1 ≤ w }
     requires columns { w ≤ 640 }
@@ -55,6 +56,7 @@ fn edge_too_large(e: Edge, w: u32, h: u32) -> bool
 }
 
 // Number 7: whether an edge value leaves signed 32 bits at some pixel of w columns and h rows.
+#[tactic(auto, using(crate::proofs::Large::edge_never_too_large, crate::proofs::Large::triangle_never_too_large))]
 pub fn triangle_too_large(c: Corners, w: u32, h: u32) -> bool
     requires some_columns { 1 ≤ w }
     requires columns { w ≤ 640 }
