@@ -1,15 +1,12 @@
 -- An edge between vertices in range: its numbers are within 8,192, its value at a pixel within 419,659,776 and, on the largest screen,
--- within 415,079,688; and a callee that reads it from the machine's words reads the same edge. Said once over the edge.
+-- within 415,079,688. Said once over the edge.
 use Prim.Native.Nat.{ℕ, ◌+◌, ◌*◌, ◌≤◌, ◌<◌}
 use mathlib.Core.Path.{◌≡◌}
 use mathlib.Core.Bool.{true, ◌&&◌}
-use mathlib.Core.List.{List, [], ◌∷◌}
 use native.Mathlib.Omega.{arith}
-use lib.IntN.{ℤ, pos, negsuc, ◌-ℤ◌}
-use lib.Signed.{le_z}
-use Rattle.ints.proofs.Poly.{var, con, ◌⊖◌}
-use Rattle.ints.proofs.Order.{le_z_true, le_of, le_to}
-use Rattle.ints.proofs.Bounds.{Within, within_pos, within_range, within_lit, within_sub, within_mul}
+use lib.IntN.{ℤ, ◌-ℤ◌}
+use Rattle.std.proofs.lemmas.Int.{ints}
+use Rattle.ints.proofs.Bounds.{Within, within_pos, within_sub, within_mul}
 use Rattle.rules.specs.declared.Vertices.{Vertices}
 use Rattle.rules.specs.Triangles.{Edge, dx, dy, edge1, edge2, edge3, edge_value, sample_offset, sample}
 use Rattle.rules.specs.Numbers.{vertex_in_range, vertices_in_range}
@@ -23,9 +20,7 @@ pub record EdgeWithin (e : Edge) : Type 0 where
   pub in_y2 : Within 8192 e.y2
 
 pub vertex_within : (v : ℤ) → vertex_in_range v ≡ true → Within 8192 v
-vertex_within v h =
-    let b = and_true {a = le_z (negsuc 8191) v} h in
-    within_range (within_lit tt) (within_lit tt) (le_z_true (negsuc 8191) v b.0) (le_z_true v (pos 8191) b.1)
+vertex_within v h = record { within = grind (arith, ints) }
 
 record Four (e : Edge) : Type 0 where
   in_x1 : vertex_in_range e.x1 ≡ true
@@ -73,23 +68,7 @@ module _ (e : Edge) (w : EdgeWithin e) where
 
 -- the difference of two vertex numbers, by both ends of their range
 difference_within : (a b : ℤ) → vertex_in_range a ≡ true → vertex_in_range b ≡ true → Within 16383 (b -ℤ a)
-difference_within a b h k =
-    let (a-low, a-high) = and_true {a = le_z (negsuc 8191) a} h in
-    let (b-low, b-high) = and_true {a = le_z (negsuc 8191) b} k in
-    let ρ : List ℤ = a ∷ b ∷ [] in
-    within_range (within_lit tt) (within_lit tt)
-    (le_of ρ (con (negsuc 16382)) (var 1 ⊖ var 0)
-    (omega (
-      arith,
-      le_to ρ (con (negsuc 8191)) (var 1) (le_z_true (negsuc 8191) b b-low),
-      le_to ρ (var 0) (con (pos 8191)) (le_z_true a (pos 8191) a-high),
-    )))
-    (le_of ρ (var 1 ⊖ var 0) (con (pos 16383))
-    (omega (
-      arith,
-      le_to ρ (con (negsuc 8191)) (var 0) (le_z_true (negsuc 8191) a a-low),
-      le_to ρ (var 1) (con (pos 8191)) (le_z_true b (pos 8191) b-high),
-    )))
+difference_within a b h k = record { within = grind (arith, ints) }
 
 -- at the sample point, on a screen up to 640 by 480
 pub value_bound : (e : Edge) → edge_in_range e ≡ true → (x y : ℕ) → x < 640 → y < 480 → Within 415079688 (edge_value e (sample x y))

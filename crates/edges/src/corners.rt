@@ -13,6 +13,7 @@ pub struct Corners {
     pub ghost in_range: { vertices_in_range vertices ≡ true },
 }
 
+#[tactic(auto, using(std::proofs::lemmas::Int::wraps, crate::proofs::Within::edge1_in_range, crate::proofs::Within::edge2_in_range, crate::proofs::Within::edge3_in_range))]
 impl Corners {
     ghost use Rattle.std.specs.Prelude.{false, IfSome, IfNone};
     ghost use Rattle.rules.specs.Triangles.{edge1, edge2, edge3};
@@ -30,7 +31,6 @@ impl Corners {
     }
 
     // From the first vertex to the second.
-    #[tactic(auto, using(std::proofs::lemmas::Int::ints, std::proofs::lemmas::Int::wraps, crate::proofs::Within::edge1_in_range))]
     pub fn edge1(self) -> Edge
         ensures { edge_of result ≡ edge1 self.vertices }
     {
@@ -44,7 +44,6 @@ impl Corners {
     }
 
     // From the second to the third.
-    #[tactic(auto, using(std::proofs::lemmas::Int::ints, std::proofs::lemmas::Int::wraps, crate::proofs::Within::edge2_in_range))]
     pub fn edge2(self) -> Edge
         ensures { edge_of result ≡ edge2 self.vertices }
     {
@@ -58,7 +57,6 @@ impl Corners {
     }
 
     // From the third back to the first.
-    #[tactic(auto, using(std::proofs::lemmas::Int::ints, std::proofs::lemmas::Int::wraps, crate::proofs::Within::edge3_in_range))]
     pub fn edge3(self) -> Edge
         ensures { edge_of result ≡ edge3 self.vertices }
     {

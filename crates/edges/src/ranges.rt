@@ -28,7 +28,7 @@ pub fn vertices_in_range(v: Vertices) -> bool
 }
 
 // Whether the edge value at pixel (x, y) leaves signed 32 bits.
-#[tactic(auto, using(std::proofs::lemmas::Int::ints, std::proofs::lemmas::Int::wraps, crate::proofs::Large::never_too_large))]
+#[tactic(auto, using(std::proofs::lemmas::Int::ints, crate::proofs::Large::never_too_large))]
 fn pixel_too_large(e: Edge, x: u32, y: u32) -> bool
     requires columns { x ≤ 640 }
     requires rows { y ≤ 512 }
