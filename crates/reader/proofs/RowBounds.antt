@@ -1,72 +1,21 @@
--- A row's part of an area, once over the area: where it stands, that it lies within the RAM, also where the row is refused and it is
--- empty, and that its bytes are the row's.
-use Prim.Native.Nat.{ℕ, ◌+◌, ◌*◌, ◌-◌, ◌≤◌}
-use mathlib.Core.Path.{◌≡◌, refl, sym, ◌∙◌, ap, ap₂}
-use mathlib.Core.Bool.{Bool, true, false}
-use mathlib.Core.List.{List}
+-- A row that is not refused lies within the RAM, in either area, and it has a pixel.
+use Prim.Native.Nat.{ℕ, ◌+◌, ◌*◌, ◌≤◌}
+use mathlib.Core.Path.{◌≡◌, sym}
 use native.Mathlib.Omega.{arith}
-use lib.ListN.{length, take, drop}
-use lib.Dec.{eqb}
-use denote.Ref.{Bor}
-use borrow.Author.Tests.{eq-eqb, ne_eqb, eqb-true}
 use Rattle.rules.specs.declared.Screen.{Screen}
-use Rattle.rules.specs.Folds.{choose}
-use Rattle.rules.specs.Sizes.{width, Area}
+use Rattle.rules.specs.Sizes.{width}
 use Rattle.rules.specs.Numbers.{row_number}
-use Rattle.rules.specs.Calls.{accepted, part_start, row_length, part_bytes}
-use Rattle.rules.proofs.Strips.{RowByRow}
+use Rattle.rules.proofs.Refusals.{screen_passed}
 use Rattle.rules.proofs.Rows.{accepted-row}
-use Rattle.reader.specs.declared.RowPart.{RowPart}
-use Rattle.reader.specs.Parts.{begins_at, IsPart}
-use Rattle.reader.specs.Rows.{Locates, HandsBack}
-use Rattle.screen.proofs.Tests.{chosen, other}
+use Rattle.rules.proofs.Strips.{sound_facts, colours_by_row, depths_by_row}
+use Rattle.reader.specs.declared.Area.{Area}
+use Rattle.reader.specs.declared.Area.TheVariants.{Colours, Depths}
+use Rattle.reader.specs.Parts.{place_in}
 
-module _ (n : ℕ) (s : Screen) (row : ℕ) where
-  pub refused : (at : Area) (k : ℕ) → k ≡ row_number n s row → ¬ (k ≡ 0)
-      → Locates at n s row (record { number = k; start = 0; length = 0 })
-  unfolding part_start row_length
-  refused at k e z =
-      let f : eqb (row_number n s row) 0 ≡ false = ne_eqb _ _ (λ p. z (e ∙ p)) in
-      record { answers = e; starts = other _ (at s 0 row) 0 f; spans = other _ (2 * width s.size) 0 f }
+pub row_within : (a : Area) (n : ℕ) (s : Screen) (row : ℕ) → 0 ≡ row_number n s row → place_in a s 0 row + 2 * width s.size ≤ n
+row_within Colours n s row e = (accepted-row colours_by_row n s row (sym e)).fits
+row_within Depths n s row e = (accepted-row depths_by_row n s row (sym e)).fits
 
-  pub found : (at : Area) (k w : ℕ) → k ≡ row_number n s row → k ≡ 0 → w ≡ width s.size
-      → Locates at n s row (record { number = k; start = at s 0 row; length = 2 * w })
-  unfolding part_start row_length
-  found at k w e z r =
-      let f : eqb (row_number n s row) 0 ≡ true = eq-eqb _ _ (sym e ∙ z) in
-      record {
-        answers = e;
-        starts = chosen _ (at s 0 row) 0 f;
-        spans = ap (λ k. 2 * k) r ∙ chosen _ (2 * width s.size) 0 f;
-      }
-
-  -- a part that begins where the area has the row's first pixel is the area's
-  pub begun : (at : Area) {first : ℕ} {p : RowPart} → first ≡ at s 0 row → Locates (begins_at first) n s row p → Locates at n s row p
-  unfolding part_start
-  begun at e l = record {
-    answers = l.answers;
-    starts = l.starts ∙ ap (λ a. accepted (row_number n s row) a 0) e;
-    spans = l.spans;
-  }
-
-  pub part_fits : {at : Area} → RowByRow at → {p : RowPart} → Locates at n s row p → p.start + p.length ≤ n
-  unfolding part_start row_length
-  part_fits {at} a {p} l = rw (l.starts, l.spans) (go (eqb (row_number n s row) 0) refl)
-    where
-      go : (t : Bool) → eqb (row_number n s row) 0 ≡ t → choose t (at s 0 row) 0 + choose t (2 * width s.size) 0 ≤ n
-      go true e = (accepted-row a n s row (eqb-true (row_number n s row) 0 e)).fits
-      go false e = omega arith
-
-pub own_bytes : (m : List ℕ) (a l : ℕ) → take (a + l - a) (drop a m) ≡ take l (drop a m)
-own_bytes m a l =
-    let e : a + l - a ≡ l = omega arith in
-    rw e
-
-pub handed_back : {at : Area} {ram bytes : Bor (List ℕ)} {s : Screen} {row : ℕ} {p : RowPart}
-    → Locates at (length ram.now) s row p → IsPart ram p bytes → HandsBack at ram s row bytes
-unfolding part_bytes
-handed_back {at} {ram} l i = record {
-  bytes = i.holds ∙ ap₂ (λ a k. take k (drop a ram.now)) l.starts l.spans;
-  block = i.block;
-  offset = i.offset ∙ ap (λ a. ram.ref_ptr.1 + a) l.starts;
-}
+pub row_wide : (n : ℕ) (s : Screen) (row : ℕ) → 0 ≡ row_number n s row → 1 ≤ width s.size
+unfolding row_number
+row_wide n s row e = omega (arith, (sound_facts (screen_passed n s _ (sym e)).0.is_sound).groups_low)

@@ -1,13 +1,15 @@
-// The row reader: the number of a request, where a row's own bytes stand, and the bytes themselves, of colours and of depths.
+// The row reader: whether a request is refused, where a row's own bytes stand, and the bytes themselves, of colours and of depths.
 #![tactic(auto)]
 
-ghost use Rattle.std.specs.Prelude.{◌+◌, ◌≤◌, length};
+ghost use Rattle.std.specs.Prelude.{◌≡◌, length};
+ghost use Rattle.rules.specs.Answers.{number_of};
 ghost use Rattle.rules.specs.Sizes.{colour_at, depth_at};
-ghost use Rattle.reader.specs.Parts.{IsPart, begins_at};
+ghost use Rattle.reader.specs.Parts.{part_of, place_in};
 ghost use Rattle.reader.specs.Rows.{Checks, HandsBack, Locates};
 
-use rules::Screen;
-use screen::sizes::{colour_at, depth_at, height, screen_number, width};
+use rules::{Refusal, Screen};
+use screen::sizes::{colour_at, depth_at, height, screen_check, width};
+use std::ops::Range;
 
 // Where a row's own bytes stand, for languages that cannot take a reference as an answer.
 #[repr(C)]
@@ -18,69 +20,96 @@ pub struct RowPart {
     pub length: u64,
 }
 
+impl From<Result<Range<usize>, Refusal>> for RowPart {
+    ghost from_gives = { λ answer part. part ≡ part_of answer };
+
+    fn from(answer: Result<Range<usize>, Refusal>) -> RowPart {
+        match answer {
+            Ok(bytes) => RowPart {
+                number: 0,
+                start: bytes.start as u64,
+                length: bytes.len() as u64,
+            },
+            Err(refusal) => RowPart {
+                number: u32::from(refusal),
+                start: 0,
+                length: 0,
+            },
+        }
+    }
+}
+
 // 3 and 5 go first, as on every call that takes a screen.
-#[tactic(auto, using(crate::proofs::Checked::screen_decides, crate::proofs::Checked::row_passes, crate::proofs::Checked::row_refused))]
-pub fn row_check(ram: &[u8], s: Screen, row: u32) -> u32
-    ensures { Checks (length ram.now) s row result }
+#[tactic(auto, unfolding(rules::specs::Numbers::screen_number, rules::specs::Numbers::row_number))]
+pub fn row_check(ram: &[u8], s: Screen, row: u32) -> Result<(), Refusal>
+    ensures { Checks (length ram.now) s row (number_of result) }
 {
-    let first = screen_number(ram.len(), s);
-    if first != 0 {
-        return first;
-    }
-    if row < height(s.size) { 0 } else { 8 }
-}
-
-// The part of a row that begins at `first`; an empty part at 0 where the row is refused.
-fn part_from(ram: &[u8], s: Screen, row: u32, first: usize) -> RowPart
-    ensures { Locates (begins_at first) (length ram.now) s row result }
-{
-    let number = row_check(ram, s, row);
-    if number != 0 {
-        return RowPart {
-            number,
-            start: 0,
-            length: 0,
-        };
-    }
-    RowPart {
-        number,
-        start: first as u64,
-        length: 2 * width(s.size) as u64,
+    screen_check(ram.len(), s)?;
+    if row < height(s.size) {
+        Ok(())
+    } else {
+        Err(Refusal::NoSuchRow)
     }
 }
 
-// The bytes that a part locates, and not a copy of them.
-fn bytes_of<'a>(ram: &'a [u8], part: RowPart) -> &'a [u8]
-    requires { part.start + part.length ≤ length ram.now }
-    ensures { IsPart ram.entry part result }
-{
-    let start = part.start as usize;
-    let end = start + part.length as usize;
-    &ram[start..end]
+// One of a screen's two areas.
+#[derive(Clone, Copy)]
+enum Area {
+    Colours,
+    Depths,
 }
 
-pub fn row_part(ram: &[u8], s: Screen, row: u32) -> RowPart
-    ensures { Locates colour_at (length ram.now) s row result }
-{
-    part_from(ram, s, row, colour_at(s, 0, row))
+impl Area {
+    // Where a row begins in it.
+    fn row_start(self, s: Screen, row: u32) -> usize
+        ensures { result ≡ place_in self s 0 row }
+    {
+        match self {
+            Area::Colours => colour_at(s, 0, row),
+            Area::Depths => depth_at(s, 0, row),
+        }
+    }
+
+    #[tactic(auto, using(crate::proofs::RowBounds::row_within), unfolding(rules::specs::Calls::part_start, rules::specs::Calls::row_length))]
+    fn row_part(self, ram: &[u8], s: Screen, row: u32) -> Result<Range<usize>, Refusal>
+        ensures { Locates (place_in self) (length ram.now) s row (part_of result) }
+    {
+        row_check(ram, s, row)?;
+        let start = self.row_start(s, row);
+        Ok(start..start + 2 * width(s.size) as usize)
+    }
+
+    // A part of `ram` and not a copy; an empty one where the row is refused.
+    #[tactic(auto, using(crate::proofs::RowBounds::row_within, crate::proofs::RowBounds::row_wide), unfolding(rules::specs::Calls::part_start, rules::specs::Calls::row_length, rules::specs::Calls::part_bytes))]
+    fn row<'a>(self, ram: &'a [u8], s: Screen, row: u32) -> &'a [u8]
+        ensures { HandsBack (place_in self) ram.entry s row result }
+    {
+        &ram[self.row_part(ram, s, row).unwrap_or(0..0)]
+    }
 }
 
-pub fn depth_row_part(ram: &[u8], s: Screen, row: u32) -> RowPart
-    ensures { Locates depth_at (length ram.now) s row result }
+pub fn row_part(ram: &[u8], s: Screen, row: u32) -> Result<Range<usize>, Refusal>
+    ensures { Locates colour_at (length ram.now) s row (part_of result) }
 {
-    part_from(ram, s, row, depth_at(s, 0, row))
+    Area::Colours.row_part(ram, s, row)
+}
+
+pub fn depth_row_part(ram: &[u8], s: Screen, row: u32) -> Result<Range<usize>, Refusal>
+    ensures { Locates depth_at (length ram.now) s row (part_of result) }
+{
+    Area::Depths.row_part(ram, s, row)
 }
 
 // The row's own colour bytes, a part of `ram` and not a copy.
 pub fn row<'a>(ram: &'a [u8], s: Screen, row: u32) -> &'a [u8]
     ensures { HandsBack colour_at ram.entry s row result }
 {
-    bytes_of(ram, row_part(ram, s, row))
+    Area::Colours.row(ram, s, row)
 }
 
 // The row's own depth bytes, likewise.
 pub fn depth_row<'a>(ram: &'a [u8], s: Screen, row: u32) -> &'a [u8]
     ensures { HandsBack depth_at ram.entry s row result }
 {
-    bytes_of(ram, depth_row_part(ram, s, row))
+    Area::Depths.row(ram, s, row)
 }
