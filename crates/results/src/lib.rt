@@ -5,7 +5,6 @@ ghost use Rattle.std.specs.Prelude.{◌≤◌, ◌<◌, ◌≡◌, ℕ, List};
 ghost use Rattle.instructions.specs.Opcodes.{LI, ADD, SUB, MUL, MULF, RECP, AND, OR, XOR, NOT, LSL, LSR, ASR, LSLI, LSRI, ASRI};
 ghost use Rattle.instructions.specs.Words.{in_r2, in_r3, opcode};
 ghost use Rattle.instructions.specs.Arithmetic.{result};
-ghost use Rattle.alu.specs.Reciprocals.{Reciprocals};
 ghost use Rattle.pieces.specs.Steps.{RegisterSteps};
 
 use alu::arithmetic::{difference, rounded_product, shifted_left, shifted_right, shifted_signed};
@@ -69,13 +68,12 @@ pub fn do_mulf(w: u32, regs: &mut Registers, cpu: Cpu) -> Cpu
     operate(w, regs, cpu, rounded_product)
 }
 
-pub fn do_recp(w: u32, regs: &mut Registers, cpu: Cpu, table: &[u32]) -> Cpu
+pub fn do_recp(w: u32, regs: &mut Registers, cpu: Cpu) -> Cpu
     requires opcode { opcode w ≡ RECP }
     requires inside { cpu.place < 1024 }
-    requires table { Reciprocals table.now }
     ensures { RegisterSteps w regs.old.words cpu regs.new.words result }
 {
-    operate(w, regs, cpu, |a, _| recp(a, table))
+    operate(w, regs, cpu, |a, _| recp(a))
 }
 
 pub fn do_and(w: u32, regs: &mut Registers, cpu: Cpu) -> Cpu

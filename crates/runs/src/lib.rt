@@ -2,7 +2,6 @@
 #![tactic(auto)]
 
 ghost use Rattle.std.specs.Prelude.{◌≡◌};
-ghost use Rattle.alu.specs.Reciprocals.{Reciprocals};
 ghost use Rattle.instructions.specs.Answers.{halt_of};
 ghost use Rattle.instructions.specs.Opcodes.{current};
 ghost use Rattle.instructions.specs.Step.{step};
@@ -11,15 +10,11 @@ ghost use Rattle.pieces.specs.Steps.{left};
 ghost use Rattle.runs.specs.Runs.{Ends, Ready, number_of_end};
 
 use alu::fields::opcode;
-use alu::reciprocals::reciprocals;
 use instructions::Halt;
 use pieces::registers::Registers;
 use pieces::state::{Cpu, View};
 use steps::arms::{plain_step, view_step};
 use steps::opcodes::WRITE;
-
-// A run that is allowed so many steps copies the table: where it takes them all, that is about one in a hundred of its instructions.
-const LONG: u64 = 1024;
 
 // What a run leaves of the small piece, the halt that ended it, if one did, and the steps carried out.
 #[derive(Clone, Copy)]
@@ -49,37 +44,34 @@ fn step(
     ram: &mut [u8],
     cpu: Cpu,
     view: &mut View,
-    table: &[u32],
 ) -> Result<Cpu, Halt>
-    requires ready { Ready program.now (machine regs.old.words cpu 0 view.old memory.old ram.old) }
-    requires reciprocals { Reciprocals table.now }
+    requires { Ready program.now (machine regs.old.words cpu 0 view.old memory.old ram.old) }
     ensures { machine regs.new.words (left cpu result) (halt_of result) view.new memory.new ram.new ≡ step current program.now (machine regs.old.words cpu 0 view.old memory.old ram.old) }
 {
     let w = *program.get(cpu.place as usize).ok_or(Halt::PastProgram)?;
     if opcode(w) <= WRITE {
-        return plain_step(w, regs, memory, ram, cpu, table);
+        return plain_step(w, regs, memory, ram, cpu);
     }
     view_step(w, regs, cpu, view, ram)
 }
 
 // A halting step ends the run, and is not counted.
-fn run_with(
+pub fn run(
     program: &[u32],
     regs: &mut Registers,
-    memory: &mut [u32; 1024],
+    memory: &mut [u32],
     ram: &mut [u8],
     first: Cpu,
     view: &mut View,
     budget: u64,
-    table: &[u32],
 ) -> Ended
-    requires ready { Ready program.now (machine regs.old.words first 0 view.old memory.old ram.old) }
-    requires reciprocals { Reciprocals table.now }
+    requires { Ready program.now (machine regs.old.words first 0 view.old memory.old ram.old) }
     ensures { Ends program.now budget (machine regs.old.words first 0 view.old memory.old ram.old) result.steps (machine regs.new.words result.cpu (number_of_end result.halt) view.new memory.new ram.new) }
 {
+    let words = memory.as_mut_array().unwrap();
     let mut cpu = first;
     for steps in 0..budget {
-        match step(program, regs, memory, ram, cpu, view, table) {
+        match step(program, regs, words, ram, cpu, view) {
             Ok(next) => cpu = next,
             Err(halt) => {
                 return Ended {
@@ -95,25 +87,4 @@ fn run_with(
         halt: None,
         steps: budget,
     }
-}
-
-// A run that may be long has its copy of the table, and lends it to all its steps. A shorter one lends them none, and they divide.
-pub fn run(
-    program: &[u32],
-    regs: &mut Registers,
-    memory: &mut [u32],
-    ram: &mut [u8],
-    first: Cpu,
-    view: &mut View,
-    budget: u64,
-) -> Ended
-    requires { Ready program.now (machine regs.old.words first 0 view.old memory.old ram.old) }
-    ensures { Ends program.now budget (machine regs.old.words first 0 view.old memory.old ram.old) result.steps (machine regs.new.words result.cpu (number_of_end result.halt) view.new memory.new ram.new) }
-{
-    let words = memory.as_mut_array().unwrap();
-    if budget < LONG {
-        return run_with(program, regs, words, ram, first, view, budget, &[]);
-    }
-    let table = reciprocals();
-    run_with(program, regs, words, ram, first, view, budget, &table)
 }

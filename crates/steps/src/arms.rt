@@ -1,8 +1,9 @@
 // The step: one arm for each opcode, and each arm one call. The instructions up to WRITE and those from SCRSET on are matched apart: the
 // first touch no screen and no tree.
-ghost use Rattle.std.specs.Prelude.{length};
-ghost use Rattle.pieces.specs.Steps.{Steps, ViewSteps, plain, plain_after, viewing, viewing_after};
-ghost use Rattle.steps.specs.Fits.{PlainFits, ViewFits};
+ghost use Rattle.std.specs.Prelude.{◌≤◌, ◌<◌, length};
+ghost use Rattle.instructions.specs.Opcodes.{WRITE};
+ghost use Rattle.instructions.specs.Words.{opcode};
+ghost use Rattle.pieces.specs.Steps.{Shows, Steps, ViewSteps, plain, plain_after, viewing, viewing_after};
 
 use crate::opcodes::{
     ADD, AND, ASR, ASRI, CALL, CLS, DOT, JEQ, JEQL, JGE, JGEL, JGT, JGTL, JLE, JLEL, JLT, JLTL,
@@ -28,9 +29,9 @@ pub fn plain_step(
     memory: &mut [u32; 1024],
     ram: &mut [u8],
     cpu: Cpu,
-    table: &[u32],
 ) -> Result<Cpu, Halt>
-    requires { PlainFits w cpu table.now }
+    requires low { opcode w ≤ WRITE }
+    requires inside { cpu.place < 1024 }
     ensures { Steps w (plain regs.old.words cpu memory.old ram.old) (plain_after regs.new.words cpu result memory.new ram.new) }
 {
     let next = match opcode(w) {
@@ -41,7 +42,7 @@ pub fn plain_step(
         SUB => do_sub(w, regs, cpu),
         MUL => do_mul(w, regs, cpu),
         MULF => do_mulf(w, regs, cpu),
-        RECP => do_recp(w, regs, cpu, table),
+        RECP => do_recp(w, regs, cpu),
         AND => do_and(w, regs, cpu),
         OR => do_or(w, regs, cpu),
         XOR => do_xor(w, regs, cpu),
@@ -82,7 +83,9 @@ pub fn view_step(
     view: &mut View,
     ram: &mut [u8],
 ) -> Result<Cpu, Halt>
-    requires { ViewFits w cpu view.old (length ram.old) }
+    requires high { WRITE < opcode w }
+    requires inside { cpu.place < 1024 }
+    requires shows { Shows (length ram.old) view.old }
     ensures { ViewSteps w (viewing regs.old.words cpu view.old ram.old) (viewing_after regs.new.words cpu result view.new ram.new) }
 {
     match opcode(w) {

@@ -39,8 +39,8 @@ returns-then-opcode-le-WRITE c =
 pub view_step-requires : goal.view_step-requires
 view_step-requires c = record {
   high = omega (arith, c.opcode.ensures, c.if-opcode-le-WRITE.false);
-  inside = omega (arith, c.requires.ready.short, (found (goal.at.view_step-requires c).After-opcode).0);
-  shows = ready_shows c.requires.ready;
+  inside = omega (arith, c.requires.short, (found (goal.at.view_step-requires c).After-opcode).0);
+  shows = ready_shows c.requires;
 }
 
 pub returns : goal.returns

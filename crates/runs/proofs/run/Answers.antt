@@ -2,7 +2,7 @@
 use mathlib.Core.Path.{refl}
 use Rattle.pieces.proofs.Joined.{halt-not_zero}
 use Rattle.runs.proofs.Invariant.{kept_end, kept_stop, kept_pass}
-use Rattle.runs.proofs.run_with.Goals as goal
+use Rattle.runs.proofs.run.Goals as goal
 
 pub returns-in-Err : goal.returns-in-Err
 returns-in-Err c =

@@ -1,2 +1,0 @@
--- What a step may count on.
-pub mod Fits
