@@ -8,6 +8,7 @@ use alu::arithmetic::{negative_flag, zero_flag};
 use alu::fields::{address, r1, r2, r3};
 
 // "R0 is always 0"
+#[derive(Drop)]
 pub struct Registers {
     pub words: [u32; 32],
     pub ghost zero_register: { register words 0 ≡ 0 },
