@@ -149,11 +149,11 @@ module _ {n : ℕ} {s : Screen} {b : Bar} (f : BarFits n s b) where
         bottom = le-leb (8 * b.bottom + 8) 8191 (omega arith);
       }
 
-  upper_in_range : vertices_in_range (upper b).vertices ≡ true
+  pub upper_in_range : vertices_in_range (upper b).vertices ≡ true
   unfolding vertices_in_range in_colour upper_half
   upper_in_range = rw (corners.left, corners.top, corners.right, corners.bottom)
 
-  lower_in_range : vertices_in_range (lower b).vertices ≡ true
+  pub lower_in_range : vertices_in_range (lower b).vertices ≡ true
   unfolding vertices_in_range in_colour lower_half
   lower_in_range = rw (corners.left, corners.top, corners.right, corners.bottom)
 
