@@ -1,21 +1,25 @@
 -- The words of the contracts inside: pixels drawn and counted, a column, and the columns before one.
-use Rattle.std.specs.Prelude.{ℕ, ◌≡◌, Bool, true, ◌&&◌, List, length, ltb, eqb}
+use Rattle.std.specs.Prelude.{ℕ, ◌≡◌, Bool, ◌&&◌, List, ltb, eqb}
 use Rattle.rules.specs.declared.Screen.{Screen}
 use Rattle.rules.specs.Folds.{pixels}
 use Rattle.rules.specs.Sizes.{width, height, Pixel}
-use Rattle.rules.specs.Numbers.{screen_number}
 use Rattle.order.specs.Pointwise.{Painted}
-use Rattle.waveform.specs.Panel.{Waveform, in_panel, panel_pixel, good_waveform}
+use Rattle.waveform.specs.Panel.{Waveform, waveform, in_panel, panel_pixel}
+use Rattle.waveform.specs.Bars.{Bar, bar}
+use Rattle.panel.specs.declared.bars.Bar.{Bar as Column}
+use Rattle.panel.specs.declared.waveforms.Waveform.{Waveform as Asked}
+
+-- what is asked for, as its struct has it, and a bar likewise
+abbrev pub asked : Asked → Waveform
+asked w = waveform w.samples.now w.n w.d w.colour
+
+abbrev pub bar_of : Column → Bar
+bar_of b = bar b.x b.top b.bottom b.colour
 
 -- `count` pixels, those that the test picks, are drawn
 pub record PixelsDrawn (s : Screen) (picked : ℕ → ℕ → Bool) (new : ℕ → ℕ → Pixel) (m : List ℕ) (count : ℕ) (after : List ℕ) : Type 0 where
   pub paints : Painted s picked new m after
   pub counts : count ≡ pixels picked (width s.size) (height s.size)
-
--- an accepted panel
-pub record Asked (ram_length : ℕ) (s : Screen) (w : Waveform) : Type 0 where
-  pub screen : screen_number ram_length s ≡ 0
-  pub good : good_waveform (length w.samples) w.n w.d ≡ true
 
 -- the panel's pixels in column x, and in the columns before it
 abbrev pub in_column : Waveform → Screen → ℕ → ℕ → ℕ → Bool

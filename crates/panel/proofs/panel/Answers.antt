@@ -1,50 +1,46 @@
--- A refusal leaves all as it was; else the columns are drawn.
-use Prim.Native.Nat.{ℕ}
-use mathlib.Core.Path.{◌≡◌, sym, ◌∙◌, ap₂, subst₂}
+-- The three ways out of a panel, of n and d as `Waveform::new` reads them.
+use mathlib.Core.Path.{◌≡◌, sym, ◌∙◌, ap₂, subst}
+use mathlib.Core.Bool.{false, true}
+use native.Mathlib.Omega.{arith}
 use lib.IntN.{ℤ}
 use lib.ListN.{length}
 use mir.Syntax.{w32}
-use mir.Val.{SFits, to_z, of_z}
 use mir.ValLaws.{to_z-of_z}
-use Rattle.rules.specs.declared.Screen.{Screen}
-use Rattle.waveform.specs.Panel.{Waveform, waveform, good_waveform, panel_number}
-use Rattle.waveform.proofs.Numbers.{panel_accepted}
-use Rattle.panel.specs.Columns.{PanelDrawn}
-use Rattle.panel.proofs.Answers.{panel_refused, panel_drawn}
+use Rattle.std.specs.Prelude.{Option, Some, None, IfSome, IfNone}
+use Rattle.std.proofs.lemmas.Grind.{common_steps}
+use Rattle.waveform.specs.Panel.{Waveform, waveform, good_waveform}
+use Rattle.panel.specs.Columns.{PanelDrawn, asked}
+use Rattle.panel.proofs.Answers.{refused_by_screen, refused_by_ten, all_drawn}
 use Rattle.panel.proofs.panel.Goals as goal
 
--- the number, as `panel_number` answers it of n and d as it reads them
-judged : (ram_length : ℕ) (s : Screen) (count : ℕ) {n d : ℤ} {number : ℕ} → SFits w32 n → SFits w32 d
-    → number ≡ panel_number ram_length s count (to_z w32 (of_z w32 n)) (to_z w32 (of_z w32 d))
-    → number ≡ panel_number ram_length s count n d
-judged ram_length s count {n} {d} f g e = e ∙ ap₂ (panel_number ram_length s count) (to_z-of_z w32 n f) (to_z-of_z w32 d g)
+none_of : {A B : Type 0} {o : Option A} → o ≡ None → IfNone o B → B
+none_of {B = B} e = subst (λ o. IfNone o B) e
 
-pub columns-pixels-requires : goal.columns-pixels-requires
-columns-pixels-requires c =
-    let a = c.args in
-    let count = length a.samples.now in
-    let e = judged (length a.ram.now) a.s count c.ranges.n c.ranges.d c.panel_number-number.ensures in
-    let (screen, good) = (panel_accepted (length a.ram.now) a.s count a.n a.d).0 (sym e ∙ c.if-number-ne0.false) in
-    record {
-      screen = screen;
-      good = ap₂ (good_waveform count) (to_z-of_z w32 a.n c.ranges.n) (to_z-of_z w32 a.d c.ranges.d) ∙ good;
-    }
+some_of : {A : Type 0} {o : Option A} {v : A} (P : A → Type 0) → o ≡ Some v → IfSome o P → P v
+some_of P e = subst (λ o. IfSome o P) e
 
-pub returns-then-number-ne0 : goal.returns-then-number-ne0
-returns-then-number-ne0 c =
+pub returns-in_err-row_check : goal.returns-in_err-row_check
+returns-in_err-row_check c =
     let a = c.args in
-    let w : Waveform = waveform a.samples.now a.n a.d a.colour in
-    panel_refused w (judged (length a.ram.now) a.s (length a.samples.now) c.ranges.n c.ranges.d c.panel_number-number.ensures)
-    c.if-number-ne0.true
+    let p = refused_by_screen a.ram.now a.s (waveform a.samples.now a.n a.d a.colour) _ c.in_err-row_check.ensures in
+    grind (arith, common_steps)
+
+pub returns-in_err-asked : goal.returns-in_err-asked
+returns-in_err-asked c =
+    let a = c.args in
+    let bad : good_waveform (length a.samples.now) a.n a.d ≡ false =
+    sym (ap₂ (good_waveform (length a.samples.now)) (to_z-of_z w32 a.n c.ranges.n) (to_z-of_z w32 a.d c.ranges.d))
+    ∙ none_of c.in_err-asked.ensures.ok_part c.new.ensures.none in
+    let p = refused_by_ten a.ram.now a.s (waveform a.samples.now a.n a.d a.colour) c.in_ok-row_check.ensures bad in
+    grind (arith, common_steps)
 
 pub returns : goal.returns
 returns c =
     let a = c.args in
     let w : ℤ → ℤ → Waveform = λ n d. waveform a.samples.now n d a.colour in
-    let e = judged (length a.ram.now) a.s (length a.samples.now) c.ranges.n c.ranges.d c.panel_number-number.ensures in
-    panel_drawn (w a.n a.d) (sym e ∙ c.if-number-ne0.false)
-    (subst₂
-    (λ n d. PanelDrawn a.s (w n d) a.ram.now c.columns-pixels.result c.columns-pixels.new.ram)
-    (to_z-of_z w32 a.n c.ranges.n)
-    (to_z-of_z w32 a.d c.ranges.d)
-    c.columns-pixels.ensures)
+    let is : asked c.in_ok-asked.asked ≡ w a.n a.d =
+    some_of _ c.in_ok-asked.ensures.ok_part c.new.ensures.some
+    ∙ ap₂ w (to_z-of_z w32 a.n c.ranges.n) (to_z-of_z w32 a.d c.ranges.d) in
+    all_drawn a.ram.now a.s (w a.n a.d) c.in_ok-row_check.ensures
+    (subst (λ (v : Waveform). good_waveform (length v.samples) v.n v.d ≡ true) is c.in_ok-asked.asked.good)
+    (subst (λ (v : Waveform). PanelDrawn a.s v a.ram.now c.columns.result c.columns.new.ram) is c.columns.ensures)
