@@ -1,13 +1,12 @@
 -- Laws of masks: the ones of a mask are the leaves it names, the mask of a span is the difference of two powers of two, the masks of
 -- four groups side by side are one mask of 64 columns.
 use Prim.Native.Nat.{ℕ, zero, suc, ◌+◌, ◌*◌, ◌-◌, ◌/◌, ◌%◌, ◌^◌, ◌≤◌, ◌<◌}
-use mathlib.Core.Path.{◌≡◌, refl, sym, ◌∙◌, ap}
+use mathlib.Core.Path.{◌≡◌, refl, sym, ◌∙◌, ap, ap₂}
 use mathlib.Core.Bool.{Bool, true, false, ◌&&◌}
 use mathlib.Core.List.{List, [], ◌∷◌}
 use lib.Bits.{bit_or}
 use lib.ListN.{length, get_or}
 use Rattle.std.proofs.lemmas.Nat.{or_shifted}
-use Rattle.std.specs.List.{fold}
 use native.Mathlib.Nat.{pow-suc, add-zero, add-suc, mul_assoc, mod-eq_of_lt}
 use native.Mathlib.Omega.{arith}
 use lib.Dec.{ltb, leb}
@@ -110,24 +109,26 @@ shifted_span lo hi o h =
     let p : 0 < 2 ^ (64 - hi) = pow_pos (64 - hi) in
     omega (arith, mask_span lo hi 64 o, all_from lo (omega arith), all_from hi h, p)
 
--- a group's mask put behind a word of at most three, as the machine does it
-put_behind : (w g : ℕ) → w < 281474976710656 → g < 65536 → bit_or (w * 65536 % 2 ^ 64) g ≡ w * 65536 + g
-put_behind w g h k = ap (λ (n : ℕ). bit_or n g) (mod-eq_of_lt (omega arith)) ∙ or_shifted w 16 g k
+-- four numbers of 16 bits side by side, as the machine puts them
+pub side_by_side : (a b c d : ℕ) → a < 65536 → b < 65536 → c < 65536 → d < 65536
+    → bit_or (bit_or (bit_or (a * 281474976710656 % 2 ^ 64) (b * 4294967296 % 2 ^ 64)) (c * 65536 % 2 ^ 64)) d
+    ≡ ((a * 65536 + b) * 65536 + c) * 65536 + d
+side_by_side a b c d h i j k =
+    let p : a * 281474976710656 % 2 ^ 64 ≡ a * 281474976710656 = mod-eq_of_lt (omega arith) in
+    let q : b * 4294967296 % 2 ^ 64 ≡ b * 4294967296 = mod-eq_of_lt (omega arith) in
+    let r : c * 65536 % 2 ^ 64 ≡ c * 65536 = mod-eq_of_lt (omega arith) in
+    let m : ℕ = a * 65536 + b in
+    let n : ℕ = m * 65536 + c in
+    let s : bit_or (a * 281474976710656) (b * 4294967296) ≡ m * 4294967296 = or_shifted a 48 (b * 4294967296) (omega arith) ∙ omega arith in
+    let t : bit_or (m * 4294967296) (c * 65536) ≡ n * 65536 = or_shifted m 32 (c * 65536) (omega arith) ∙ omega arith in
+    ap₂ (λ (x y : ℕ). bit_or (bit_or x y) d) (ap₂ (λ (x y : ℕ). bit_or x y) p q ∙ s) r
+    ∙ ap (λ (x : ℕ). bit_or x d) t
+    ∙ or_shifted n 16 d k
 
-abbrev pub put_in_turn : List ℕ → ℕ
-put_in_turn groups = fold (λ word group. bit_or (word * 65536 % 2 ^ 64) group) 0 groups
-
-pub side_by_side : (groups : List ℕ) → length groups ≡ 4 → ((i : ℕ) → get_or groups i 0 < 65536) → put_in_turn groups ≡ word_of groups
-side_by_side (a ∷ b ∷ c ∷ d ∷ []) l h =
-    let p = put_behind 0 a (omega arith) (h 0) in
-    let q = put_behind (0 * 65536 + a) b (omega (arith, h 0)) (h 1) in
-    let r = put_behind ((0 * 65536 + a) * 65536 + b) c (omega (arith, h 0, h 1)) (h 2) in
-    let s = put_behind (((0 * 65536 + a) * 65536 + b) * 65536 + c) d (omega (arith, h 0, h 1, h 2)) (h 3) in
-    ap (λ (n : ℕ). bit_or ((bit_or ((bit_or (n * 65536 % 2 ^ 64) b) * 65536 % 2 ^ 64) c) * 65536 % 2 ^ 64) d) p
-    ∙ ap (λ (n : ℕ). bit_or ((bit_or (n * 65536 % 2 ^ 64) c) * 65536 % 2 ^ 64) d) q
-    ∙ ap (λ (n : ℕ). bit_or (n * 65536 % 2 ^ 64) d) r
-    ∙ s
-side_by_side _ l h = absurd (omega (arith, l))
+pub word_of_four : (groups : List ℕ) → length groups ≡ 4
+    → word_of groups ≡ ((get_or groups 0 0 * 65536 + get_or groups 1 0) * 65536 + get_or groups 2 0) * 65536 + get_or groups 3 0
+word_of_four (a ∷ b ∷ c ∷ d ∷ []) l = omega arith
+word_of_four _ l = absurd (omega (arith, l))
 
 -- Four masks side by side are the mask of 64 columns, and their ones are the columns it names.
 module _ (f : ℕ → Bool) where

@@ -50,8 +50,7 @@ impl Masks {
     pub fn word(self) -> u64
         ensures { result ≡ word_of self.groups }
     {
-        self.groups
-            .iter()
-            .fold(0, |word, &group| word << 16 | u64::from(group))
+        let [one, two, three, four] = self.groups;
+        u64::from(one) << 48 | u64::from(two) << 32 | u64::from(three) << 16 | u64::from(four)
     }
 }

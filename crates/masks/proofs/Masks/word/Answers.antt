@@ -1,14 +1,23 @@
--- The groups are gone through in order: each is put behind those before it.
-use Rattle.std.proofs.Common.{rules, tests, ℕ, ◌*◌, ◌%◌, ◌^◌, ◌<◌, ◌∙◌, bit_or, slice_index_or}
-use Rattle.std.proofs.lemmas.Iterator.{YieldsList-from_slice}
-use Rattle.std.proofs.lemmas.Iterator.Consumers.{fold_from_yields_List}
-use Rattle.masks.proofs.Mask.{side_by_side}
+-- Each group stands in bits of its own.
+use Rattle.std.proofs.Common.{rules, arith, ℕ, ◌<◌, slice_index_or}
+use Rattle.masks.proofs.Mask.{side_by_side, word_of_four}
 use Rattle.masks.proofs.Masks.word.Goals as goal
 
 pub returns : goal.returns
 returns c =
     let groups = c.args.self.groups in
     let few : (i : ℕ) → slice_index_or groups i 0 < 65536 = λ i. search rules in
-    fold_from_yields_List _ (λ (word group : ℕ). bit_or (word * 65536 % 2 ^ 64) group) 0 c.fold.result c.fold.ensures.ran
-    (YieldsList-from_slice groups cc) (λ a x b q k. search (rules, tests))
-    ∙ side_by_side groups (search rules) few
+    let a = c.from in
+    let b = c.from-2 in
+    let d = c.from-3 in
+    let e = c.from-4 in
+    omega (
+      arith,
+      side_by_side a.result b.result d.result e.result (omega (arith, a.ensures, few 0)) (omega (arith, b.ensures, few 1))
+          (omega (arith, d.ensures, few 2)) (omega (arith, e.ensures, few 3)),
+      word_of_four groups (search rules),
+      a.ensures,
+      b.ensures,
+      d.ensures,
+      e.ensures,
+    )
