@@ -2,15 +2,15 @@
 -- and holds of every state that a call reads (`lent-marks`) and so of every state that it answers, since a run keeps them.
 use mathlib.Core.Path.{◌≡◌, refl, ◌∙◌, ap}
 use mathlib.Core.Bool.{Bool, true, false}
-use mathlib.Core.List.{List, [], ◌∷◌}
+use mathlib.Core.List.{List}
 use lib.ListN.{length, get_or}
 use Rattle.instructions.specs.declared.Tree.{Tree}
 use Rattle.instructions.specs.declared.State.{State}
-use Rattle.instructions.specs.Tree.{each}
 use Rattle.instructions.proofs.Leaves.{length-each, leaf_at_lem, leaves_same}
 use Rattle.instructions.proofs.Lengths.{SixteenMarks}
 use Rattle.border.specs.declared.LentState.{LentState}
 use Rattle.border.specs.Lent.{is_yes, number_of, marks_of, bytes_of, tree_of, lent_tree, state_of, lent_state}
+use Rattle.border.proofs.Made.{each_own}
 
 -- the state that a call reads
 pub lent-marks : (s : LentState) → SixteenMarks (state_of s).tree
@@ -19,12 +19,6 @@ lent-marks s = record { marks_i = length-each _ 16; marks_o = length-each _ 16 }
 yes_back : (b : Bool) → is_yes (number_of b) ≡ b
 yes_back true = refl
 yes_back false = refl
-
--- a list is its own elements in order
-each_own : {A : Type 0} (l : List A) (d : A) → each (λ k. get_or l k d) (length l) ≡ l
-unfolding each
-each_own [] d = refl
-each_own (x ∷ l) d = ap (λ t. x ∷ t) (each_own l d)
 
 marks_back : (marks : List Bool) → length marks ≡ 16 → marks_of (bytes_of marks) ≡ marks
 marks_back marks h =

@@ -2,10 +2,11 @@
 #![tactic(auto)]
 
 ghost use Rattle.std.specs.Prelude.{◌≡◌};
-ghost use Rattle.border.specs.Lent.{number_of, marks_of, bytes_of, tree_of, lent_tree, state_of, lent_state};
+ghost use Rattle.border.specs.Lent.{marks_of, bytes_of, tree_of, lent_tree, state_of, lent_state};
 
 use instructions::{State, Tree};
 use rules::Screen;
+use std::array::from_fn;
 
 #[repr(C)]
 #[derive(Clone, Copy)]
@@ -33,121 +34,109 @@ pub struct LentState {
     pub tree: LentTree,
 }
 
-fn number_of(b: bool) -> u32
-    ensures { result ≡ number_of b }
-{
-    if b {
-        return 1;
-    }
-    0
-}
-
-fn byte_of(b: bool) -> u8
-    ensures { result ≡ number_of b }
-{
-    if b {
-        return 1;
-    }
-    0
-}
-
 fn marks_of(bytes: [u8; 16]) -> [bool; 16]
     ensures { result ≡ marks_of bytes }
 {
-    let mut marks = [false; 16];
-    for k in 0..16 {
-        marks[k] = bytes[k] != 0;
-    }
-    marks
+    from_fn(|k| bytes[k] != 0)
 }
 
 fn bytes_of(marks: [bool; 16]) -> [u8; 16]
     ensures { result ≡ bytes_of marks }
 {
-    let mut bytes = [0u8; 16];
-    for k in 0..16 {
-        bytes[k] = byte_of(marks[k]);
-    }
-    bytes
+    from_fn(|k| u8::from(marks[k]))
 }
 
-fn tree_of(lent: LentTree) -> Tree
-    ensures { result ≡ tree_of lent }
-{
-    let within = lent.inside;
-    let beyond = lent.outside;
-    let inside = marks_of(within);
-    let outside = marks_of(beyond);
-    let colour = lent.colour;
-    let depth = lent.depth;
-    Tree {
-        column: lent.column,
-        row: lent.row,
-        inside,
-        outside,
-        colour,
-        depth,
-        held: lent.held != 0,
-    }
-}
+impl From<LentTree> for Tree {
+    ghost from_gives = { λ lent tree. tree ≡ tree_of lent };
 
-fn lent_tree(tree: Tree) -> LentTree
-    ensures { result ≡ lent_tree tree }
-{
-    let within = tree.inside;
-    let beyond = tree.outside;
-    let inside = bytes_of(within);
-    let outside = bytes_of(beyond);
-    let colour = tree.colour;
-    let depth = tree.depth;
-    LentTree {
-        column: tree.column,
-        row: tree.row,
-        inside,
-        outside,
-        colour,
-        depth,
-        held: number_of(tree.held),
+    fn from(lent: LentTree) -> Tree {
+        let LentTree {
+            column,
+            row,
+            inside,
+            outside,
+            colour,
+            depth,
+            held,
+        } = lent;
+        let inside = marks_of(inside);
+        let outside = marks_of(outside);
+        Tree {
+            column,
+            row,
+            inside,
+            outside,
+            colour,
+            depth,
+            held: held != 0,
+        }
     }
 }
 
-pub fn state_of(lent: LentState) -> State
-    ensures { result ≡ state_of lent }
-{
-    let regs = lent.regs;
-    let screen = lent.screen;
-    let grown = lent.tree;
-    let tree = tree_of(grown);
-    State {
-        regs,
-        place: lent.place,
-        negative: lent.negative != 0,
-        zero: lent.zero != 0,
-        halt: lent.halt,
-        shown: lent.shown != 0,
-        screen,
-        planted: lent.planted != 0,
-        tree,
+impl From<Tree> for LentTree {
+    ghost from_gives = { λ tree lent. lent ≡ lent_tree tree };
+
+    fn from(tree: Tree) -> LentTree {
+        let Tree {
+            column,
+            row,
+            inside,
+            outside,
+            colour,
+            depth,
+            held,
+        } = tree;
+        let inside = bytes_of(inside);
+        let outside = bytes_of(outside);
+        LentTree {
+            column,
+            row,
+            inside,
+            outside,
+            colour,
+            depth,
+            held: u32::from(held),
+        }
     }
 }
 
-pub fn lent_state(state: State) -> LentState
-    ensures { result ≡ lent_state state }
-{
-    let regs = state.regs;
-    let screen = state.screen;
-    let grown = state.tree;
-    let tree = lent_tree(grown);
-    LentState {
-        regs,
-        place: state.place,
-        negative: number_of(state.negative),
-        zero: number_of(state.zero),
-        halt: state.halt,
-        shown: number_of(state.shown),
-        screen,
-        planted: number_of(state.planted),
-        tree,
+impl From<LentState> for State {
+    ghost from_gives = { λ lent state. state ≡ state_of lent };
+
+    fn from(lent: LentState) -> State {
+        let LentState { regs, tree, .. } = lent;
+        let tree = Tree::from(tree);
+        State {
+            regs,
+            place: lent.place,
+            negative: lent.negative != 0,
+            zero: lent.zero != 0,
+            halt: lent.halt,
+            shown: lent.shown != 0,
+            screen: lent.screen,
+            planted: lent.planted != 0,
+            tree,
+        }
+    }
+}
+
+impl From<State> for LentState {
+    ghost from_gives = { λ state lent. lent ≡ lent_state state };
+
+    fn from(state: State) -> LentState {
+        let State { regs, tree, .. } = state;
+        let tree = LentTree::from(tree);
+        LentState {
+            regs,
+            place: state.place,
+            negative: u32::from(state.negative),
+            zero: u32::from(state.zero),
+            halt: state.halt,
+            shown: u32::from(state.shown),
+            screen: state.screen,
+            planted: u32::from(state.planted),
+            tree,
+        }
     }
 }
 

@@ -1,14 +1,7 @@
--- `bytes_of` answers each mark as 0 or 1: the loop fills the array leaf by leaf.
-use mathlib.Core.Path.{refl}
-use native.Mathlib.Omega.{arith}
-use Rattle.instructions.proofs.Filled.{filled_none, filled_more, filled_all}
+-- `bytes_of` answers each mark as 0 or 1.
+use Rattle.std.proofs.Common.{rules}
+use Rattle.border.proofs.Made.{made}
 use Rattle.border.proofs.bytes_of.Goals as goal
 
-pub loop-k-init : goal.loop-k-init
-loop-k-init c = (omega arith, filled_none refl)
-
-pub loop-k-preserved : goal.loop-k-preserved
-loop-k-preserved c = (omega arith, filled_more c.loop-k.invariant.1 c.loop-k-test.true c.byte_of.ensures)
-
 pub returns : goal.returns
-returns c = filled_all c.loop-k.invariant.1 (omega arith)
+returns c = made _ _ _ (λ k byte after called. search rules) c.from_fn.ensures.items

@@ -1,14 +1,7 @@
--- `marks_of` reads each byte as a mark: the loop fills the array leaf by leaf.
-use mathlib.Core.Path.{refl}
-use native.Mathlib.Omega.{arith}
-use Rattle.instructions.proofs.Filled.{filled_none, filled_more, filled_all}
+-- `marks_of` reads each byte as a mark.
+use Rattle.std.proofs.Common.{rules}
+use Rattle.border.proofs.Made.{made}
 use Rattle.border.proofs.marks_of.Goals as goal
 
-pub loop-k-init : goal.loop-k-init
-loop-k-init c = (omega arith, filled_none refl)
-
-pub loop-k-preserved : goal.loop-k-preserved
-loop-k-preserved c = (omega arith, filled_more c.loop-k.invariant.1 c.loop-k-test.true refl)
-
 pub returns : goal.returns
-returns c = filled_all c.loop-k.invariant.1 (omega arith)
+returns c = made _ _ _ (λ k mark after called. search rules) c.from_fn.ensures.items
