@@ -3,9 +3,10 @@
 
 ghost use Rattle.lends.specs.Lends.{RunsLent, lent, run_outcome};
 
-use border::{LentState, lent_state, state_of};
-use machine::calls::run_accepted;
-use states::machine_number;
+use border::LentState;
+use instructions::State;
+use machine::calls::{Left, run_accepted};
+use states::machine_check;
 
 // What a run answers: its number, the steps carried out, and the state.
 #[repr(C)]
@@ -26,22 +27,19 @@ pub fn run_lent(
 ) -> LentRan
     ensures { RunsLent program.now budget (lent state memory.old ram.old) (run_outcome result memory.new ram.new) }
 {
-    let given = state_of(state);
-    let number = machine_number(program.len(), memory.len(), ram.len(), given);
-    if number != 0 {
+    let given = State::from(state);
+    if let Err(refusal) = machine_check(program.len(), memory.len(), ram.len(), &given) {
         return LentRan {
-            number,
+            number: u32::from(refusal),
             steps: 0,
             state,
         };
     }
-    let left = run_accepted(program, memory, ram, given, budget);
-    let last = left.state;
-    let state = lent_state(last);
+    let Left { steps, state } = run_accepted(program, memory, ram, given, budget);
     LentRan {
-        number,
-        steps: left.steps,
-        state,
+        number: 0,
+        steps,
+        state: LentState::from(state),
     }
 }
 

@@ -1,31 +1,26 @@
 // The machine's calls over a state by value: a run, and a single step.
 ghost use Rattle.std.specs.Prelude.{◌≡◌};
+ghost use Rattle.rules.specs.Answers.{number_of};
 ghost use Rattle.instructions.specs.Step.{together};
 ghost use Rattle.instructions.specs.Run.{run_number};
-ghost use Rattle.instructions.specs.Calls.{Runs, StepsOnce, outcome};
+ghost use Rattle.instructions.specs.Calls.{Runs, StepsOnce};
 ghost use Rattle.runs.specs.Runs.{Ends};
+ghost use Rattle.machine.specs.Answers.{carried, ran, stepped};
 
 use instructions::State;
 use pieces::state::{cpu_of, joined, view_of};
+use rules::Refusal;
 use runs::run;
-use states::machine_number;
+use states::machine_check;
 
-// What a run answers: its number, the steps carried out, and the state.
-#[derive(Clone, Copy)]
-pub struct Ran {
-    pub number: u32,
-    pub steps: u64,
-    pub state: State,
-}
-
-// What a run of an accepted call leaves.
+// What a run leaves: the steps carried out, and the state.
 #[derive(Clone, Copy)]
 pub struct Left {
     pub steps: u64,
     pub state: State,
 }
 
-// A call that no number refuses, so that whoever has judged it need not judge it again.
+// A call that no number refuses, for who has judged it.
 pub fn run_accepted(
     program: &[u32],
     memory: &mut [u32],
@@ -48,57 +43,46 @@ pub fn run_accepted(
     );
     let cpu = end.cpu;
     let view = end.view;
-    let last = joined(regs, cpu, view);
+    let state = joined(regs, cpu, view);
     Left {
         steps: end.steps,
-        state: last,
+        state,
     }
 }
 
-// At most `budget` steps. A number other than 0 leaves the state and all memory as they were.
+// At most `budget` steps. A call that is refused leaves all memory as it was.
 pub fn run_machine(
     program: &[u32],
     memory: &mut [u32],
     ram: &mut [u8],
     state: State,
     budget: u64,
-) -> Ran
-    ensures { Runs program.now budget (together state memory.old ram.old) (outcome result.number result.steps (together result.state memory.new ram.new)) }
+) -> Result<Left, Refusal>
+    ensures { Runs program.now budget (together state memory.old ram.old) (ran state result memory.new ram.new) }
 {
-    let number = machine_number(program.len(), memory.len(), ram.len(), state);
-    if number != 0 {
-        return Ran {
-            number,
-            steps: 0,
-            state,
-        };
-    }
-    let left = run_accepted(program, memory, ram, state, budget);
-    let last = left.state;
-    Ran {
-        number,
-        steps: left.steps,
-        state: last,
-    }
+    machine_check(program.len(), memory.len(), ram.len(), &state)?;
+    Ok(run_accepted(program, memory, ram, state, budget))
 }
 
-// What a step answers: its number, whether it was carried out, and the state.
+// What a step leaves: whether it was carried out, and the state.
 #[derive(Clone, Copy)]
 pub struct Stepped {
-    pub number: u32,
     pub carried: bool,
     pub state: State,
 }
 
 // One step. It is a run of one, so that there is one run, with one loop, in the library.
-pub fn step(program: &[u32], memory: &mut [u32], ram: &mut [u8], state: State) -> Stepped
-    ensures { StepsOnce program.now (together state memory.old ram.old) result.number result.carried (together result.state memory.new ram.new) }
+pub fn step(
+    program: &[u32],
+    memory: &mut [u32],
+    ram: &mut [u8],
+    state: State,
+) -> Result<Stepped, Refusal>
+    ensures { StepsOnce program.now (together state memory.old ram.old) (number_of result) (carried result) (together (stepped state result) memory.new ram.new) }
 {
-    let ran = run_machine(program, memory, ram, state, 1);
-    let last = ran.state;
-    Stepped {
-        number: ran.number,
-        carried: ran.steps == 1,
-        state: last,
-    }
+    let Left { steps, state } = run_machine(program, memory, ram, state, 1)?;
+    Ok(Stepped {
+        carried: steps == 1,
+        state,
+    })
 }

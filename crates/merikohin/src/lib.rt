@@ -9,7 +9,7 @@ ghost use Rattle.waveform.specs.Panel.{Panels, waveform};
 ghost use Rattle.reader.specs.Rows.{Checks, Locates};
 ghost use Rattle.lends.specs.Lends.{Lends, RunsLent, StepsLent, lent, run_outcome, step_outcome};
 
-use border::{LentState, lent_state, state_copied};
+use border::{LentState, state_copied};
 use interpolation::{Through, Values};
 use lends::{LentRan, LentStepped, run_lent};
 use reader::RowPart;
@@ -76,7 +76,7 @@ pub extern "C" fn merikohin_depth_row(ram: &[u8], s: Screen, row: u32) -> RowPar
 pub extern "C" fn merikohin_fresh() -> LentState
     ensures { Lends result }
 {
-    lent_state(states::fresh())
+    LentState::from(states::fresh())
 }
 
 #[unsafe(no_mangle)]
@@ -102,11 +102,10 @@ pub extern "C" fn merikohin_step(
 ) -> LentStepped
     ensures { StepsLent program.now (lent state memory.old ram.old) (step_outcome result memory.new ram.new) }
 {
-    let end = merikohin_run(program, memory, ram, state, 1);
-    let last = end.state;
+    let ran = merikohin_run(program, memory, ram, state, 1);
     LentStepped {
-        number: end.number,
-        carried: end.steps as u32,
-        state: state_copied(last),
+        number: ran.number,
+        carried: ran.steps as u32,
+        state: state_copied(ran.state),
     }
 }

@@ -49,30 +49,29 @@ fn is_halt_number(halt: u32) -> bool
 // `len` is that of the RAM. A halt number that the rules do not have is answered at once, which makes a call shorter; a screen and a
 // tree's place are judged only where there is a screen.
 #[tactic(auto, unfolding(instructions::specs::Run::ill_formed))]
-pub fn ill_formed(len: usize, state: State) -> bool
-    ensures { result ≡ ill_formed len state }
+pub fn ill_formed(len: usize, state: &State) -> bool
+    ensures { result ≡ ill_formed len state.now }
 {
-    let State {
-        regs,
-        screen,
-        tree,
-        ..
-    } = state;
     if !is_halt_number(state.halt) {
         return true;
     }
-    let wrong = regs[0] != 0;
+    let wrong = state.regs[0] != 0;
     if !state.shown {
         return wrong | state.planted;
     }
-    let unsound = !sound(len, screen);
-    wrong | unsound | state.planted & refuses_place(screen, tree.column, tree.row)
+    let unsound = !sound(len, state.screen);
+    wrong | unsound | state.planted & refuses_place(state.screen, state.tree.column, state.tree.row)
 }
 
 // The lowest number that applies.
 #[tactic(auto, unfolding(instructions::specs::Run::machine_number))]
-pub fn machine_check(program: usize, memory: usize, ram: usize, state: State) -> Result<(), Refusal>
-    ensures { number_of result ≡ machine_number program memory ram state }
+pub fn machine_check(
+    program: usize,
+    memory: usize,
+    ram: usize,
+    state: &State,
+) -> Result<(), Refusal>
+    ensures { number_of result ≡ machine_number program memory ram state.now }
 {
     if 1024 < program {
         return Err(Refusal::ProgramTooLong);

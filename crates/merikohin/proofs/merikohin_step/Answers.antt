@@ -5,11 +5,11 @@ use Rattle.lends.proofs.Stepping.{run_is_step, one_at_most}
 use Rattle.merikohin.proofs.merikohin_step.Goals as goal
 
 pub overflow_cast-result : goal.overflow_cast-result
-overflow_cast-result c = omega (arith, one_at_most c.merikohin_run-end.ensures)
+overflow_cast-result c = omega (arith, one_at_most c.merikohin_run-ran.ensures)
 
 pub returns : goal.returns
 returns c =
-    let step = run_is_step c.merikohin_run-end.ensures in
+    let step = run_is_step c.merikohin_run-ran.ensures in
     record {
       after = step.after;
       carried_out = step.carried_out;

@@ -11,16 +11,16 @@ use Rattle.states.proofs.ill_formed.Goals as goal
 abbrev judged : Bool → Bool → Bool → Bool → Bool → Bool → Bool
 judged w h s u p r = w || not h || s && u || p && not s || p && r
 
-none_shown : (w h s u p r : Bool) → h ≡ true → not s ≡ true → w || p ≡ judged w h s u p r
+none_shown : (w h s u p r : Bool) → h ≡ true → s ≡ false → w || p ≡ judged w h s u p r
 none_shown w false s u p r known none = absurd (false≢true known)
-none_shown w true true u p r known none = absurd (false≢true none)
+none_shown w true true u p r known none = absurd (true≢false none)
 none_shown true true false u p r known none = refl
 none_shown false true false u true r known none = refl
 none_shown false true false u false r known none = refl
 
-one_shown : (w h s u p r : Bool) → h ≡ true → not s ≡ false → w || u || p && r ≡ judged w h s u p r
+one_shown : (w h s u p r : Bool) → h ≡ true → s ≡ true → w || u || p && r ≡ judged w h s u p r
 one_shown w false s u p r known one = absurd (false≢true known)
-one_shown w true false u p r known one = absurd (true≢false one)
+one_shown w true false u p r known one = absurd (false≢true one)
 one_shown true true true u p r known one = refl
 one_shown false true true true p r known one = refl
 one_shown false true true false true r known one = refl
@@ -33,6 +33,6 @@ returns-then-not-state c = none_shown _ _ _ _ _ _ (sym c.is_halt_number.ensures 
 pub returns : goal.returns
 unfolding ill_formed
 returns c =
-    let s = c.args.state in
+    let s = c.args.state.now in
     ap₂ (λ (t r : Bool). not (eqb (register s.regs 0) 0) || not t || s.planted && r) c.sound-unsound.ensures c.refuses_place.ensures
     ∙ one_shown _ _ _ _ _ _ (sym c.is_halt_number.ensures ∙ c.if-not-is_halt_number.false) c.if-not-state.false

@@ -3,5 +3,4 @@ use Rattle.instructions.proofs.Stepping.{run_once}
 use Rattle.machine.proofs.calls.step.Goals as goal
 
 pub returns : goal.returns
-returns c =
-    run_once c.run_machine-ran.ensures
+returns c = run_once c.in_ok-steps.ensures

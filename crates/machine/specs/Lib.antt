@@ -1,0 +1,2 @@
+-- What the machine's calls answer.
+pub mod Answers
