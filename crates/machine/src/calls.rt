@@ -8,7 +8,8 @@ ghost use Rattle.runs.specs.Runs.{Ends};
 ghost use Rattle.machine.specs.Answers.{carried, ran, stepped};
 
 use instructions::State;
-use pieces::state::{cpu_of, joined, view_of};
+use pieces::registers::Registers;
+use pieces::state::{Cpu, View, joined};
 use rules::Refusal;
 use runs::run;
 use states::machine_check;
@@ -20,7 +21,7 @@ pub struct Left {
     pub state: State,
 }
 
-// A call that no number refuses, for who has judged it.
+// A call that no number refuses, for who has judged it. A halted state stays.
 pub fn run_accepted(
     program: &[u32],
     memory: &mut [u32],
@@ -31,19 +32,22 @@ pub fn run_accepted(
     requires { run_number program.now (together state memory.old ram.old) ≡ 0 }
     ensures { Ends program.now budget (together state memory.old ram.old) result.steps (together result.state memory.new ram.new) }
 {
-    let mut regs = state.regs;
+    if state.halt != 0 {
+        return Left { steps: 0, state };
+    }
+    let mut regs = Registers { words: state.regs };
+    let mut view = View::from(&state);
     let end = run(
         program,
         &mut regs,
         memory,
         ram,
-        cpu_of(state),
-        view_of(state),
+        Cpu::from(&state),
+        &mut view,
         budget,
     );
-    let cpu = end.cpu;
-    let view = end.view;
-    let state = joined(regs, cpu, view);
+    let Registers { words } = regs;
+    let state = joined(words, end.cpu, end.halt_number(), &view);
     Left {
         steps: end.steps,
         state,

@@ -1,18 +1,23 @@
--- The pieces that the run starts from join to the state given, and those that it ends with to the state that is handed back.
-use mathlib.Core.Path.{◌≡◌, sym, ap₂, subst}
-use Rattle.instructions.specs.Step.{Machine, together}
-use Rattle.pieces.specs.declared.state.Cpu.{Cpu}
-use Rattle.pieces.specs.declared.state.View.{View}
+-- A halted state stays. The pieces that the run of any other starts from join to the state given, which no number refuses.
+use mathlib.Core.Path.{◌≡◌, sym, subst}
+use Rattle.instructions.specs.Step.{together}
 use Rattle.pieces.specs.Pieces.{machine}
 use Rattle.runs.specs.Runs.{Ready}
+use Rattle.runs.proofs.Invariant.{halted_ends, ready_facts}
 use Rattle.machine.proofs.Numbered.{accepted_ready}
 use Rattle.machine.proofs.calls.run_accepted.Goals as goal
 
+pub returns-then-state-ne0 : goal.returns-then-state-ne0
+returns-then-state-ne0 c = halted_ends _ _ _ c.if-state-ne0.true
+
+pub invariant_of-regs : goal.invariant_of-regs
+invariant_of-regs c = record { zero_register = (ready_facts (accepted_ready _ _ c.requires)).zero_register }
+
 pub run-end-requires : goal.run-end-requires
 run-end-requires c =
-    let a = c.args in
-    let given : Machine = together a.state a.memory.now a.ram.now in
-    -- the pieces that the run starts from are those of the state
-    let pieces : machine a.state.regs c.cpu_of.result c.view_of.result a.memory.now a.ram.now ≡ given =
-    ap₂ (λ (x : Cpu) (v : View). machine a.state.regs x v a.memory.now a.ram.now) c.cpu_of.ensures c.view_of.ensures in
-    subst (Ready _) (sym pieces) (accepted_ready _ given c.requires)
+    let s = c.args.state in
+    let memory = c.args.memory.now in
+    let ram = c.args.ram.now in
+    let pieces : machine s.regs c.from.result 0 c.from-view.result memory ram ≡ together s memory ram =
+    λ i. machine s.regs (c.from.ensures i) (sym c.if-state-ne0.false i) (c.from-view.ensures i) memory ram in
+    subst (Ready _) (sym pieces) (accepted_ready _ _ c.requires)
