@@ -13,28 +13,28 @@ use border::{LentState, state_copied};
 use interpolation::{Through, Values};
 use lends::{LentRan, LentStepped, run_lent};
 use reader::RowPart;
-use rules::{Drawn, Screen, Triangle, Vertices};
+use rules::{Drawn, Screen, Triangle, Vertices, number_of};
 use waveform::Panelled;
 
 #[unsafe(no_mangle)]
 pub extern "C" fn merikohin_clear(ram: &mut [u8], s: Screen, colour: u16, depth: u16) -> u32
     ensures { Clears ram.old s (pixel colour depth) result ram.new }
 {
-    screen::clear::clear(ram, s, colour, depth)
+    number_of(screen::clear::clear(ram, s, colour, depth))
 }
 
 #[unsafe(no_mangle)]
 pub extern "C" fn merikohin_draw(ram: &mut [u8], s: Screen, t: Triangle) -> Drawn
     ensures { Draws ram.old s t result ram.new }
 {
-    draw::triangles::draw(ram, s, t)
+    Drawn::from(draw::triangles::draw(ram, s, t))
 }
 
 #[unsafe(no_mangle)]
 pub extern "C" fn merikohin_plane_through(v: Vertices, r: Values) -> Through
     ensures { PassesThrough v r result }
 {
-    through::plane_through(v, r)
+    Through::from(through::plane_through(v, r))
 }
 
 #[unsafe(no_mangle)]
@@ -48,28 +48,28 @@ pub extern "C" fn merikohin_panel(
 ) -> Panelled
     ensures { Panels ram.old s (waveform samples.now n d colour) result ram.new }
 {
-    panel::panel(ram, s, samples, n, d, colour)
+    Panelled::from(panel::panel(ram, s, samples, n, d, colour))
 }
 
 #[unsafe(no_mangle)]
 pub extern "C" fn merikohin_row_check(ram: &[u8], s: Screen, row: u32) -> u32
     ensures { Checks (length ram.now) s row result }
 {
-    reader::row_check(ram, s, row)
+    number_of(reader::row_check(ram, s, row))
 }
 
 #[unsafe(no_mangle)]
 pub extern "C" fn merikohin_row(ram: &[u8], s: Screen, row: u32) -> RowPart
     ensures { Locates colour_at (length ram.now) s row result }
 {
-    reader::row_part(ram, s, row)
+    RowPart::from(reader::row_part(ram, s, row))
 }
 
 #[unsafe(no_mangle)]
 pub extern "C" fn merikohin_depth_row(ram: &[u8], s: Screen, row: u32) -> RowPart
     ensures { Locates depth_at (length ram.now) s row result }
 {
-    reader::depth_row_part(ram, s, row)
+    RowPart::from(reader::depth_row_part(ram, s, row))
 }
 
 #[unsafe(no_mangle)]
