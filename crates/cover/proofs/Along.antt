@@ -2,14 +2,15 @@
 -- inside, and rises or falls along a row. Everything is said once over the edge.
 use Prim.Native.Nat.{ℕ, zero, suc, ◌+◌, ◌≤◌}
 use mathlib.Core.Path.{◌≡◌, refl, sym, ◌∙◌, ap}
-use mathlib.Core.List.{List, [], ◌∷◌}
+use mathlib.Core.List.{[], ◌∷◌}
 use mathlib.Core.Bool.{Bool, true, false, ◌&&◌, ◌||◌}
 use native.Mathlib.Omega.{arith}
 use lib.IntN.{ℤ, pos, negsuc, ◌+ℤ◌, ◌-ℤ◌, ◌*ℤ◌}
 use lib.Signed.{non_neg, le_z, ◌≤ℤ◌}
 use borrow.Author.Tests.{lt-ltb, le-ltb}
+use Rattle.std.proofs.lemmas.Int.{ints}
 use Rattle.ints.proofs.Poly.{Exp, var, con, ◌⊕◌, ◌⊖◌, ◌⊗◌, solve}
-use Rattle.ints.proofs.Order.{non_neg_is, non_neg_true, non_neg_false, le_of, le_to, lt_to, mul_nonneg, pos-le}
+use Rattle.ints.proofs.Order.{non_neg_is, non_neg_true, non_neg_false, mul_nonneg, pos-le}
 use Rattle.ints.proofs.Bounds.{Within, within_pos, within_lit, within_sub, within_mul}
 use Rattle.rules.specs.Folds.{choose}
 use Rattle.rules.specs.Triangles.{Edge, dx, dy, edge_value, sample_offset, sample, keeps_zero, inside, positive, is_zero}
@@ -99,16 +100,10 @@ module _ (e : Edge) (w : EdgeWithin e) where
 module _ (e : Edge) (x k y : ℕ) where
   pub rises : non_neg (slope e) ≡ true → sided e x y ≤ℤ sided e (x + k) y
   rises h =
-      let ρ : List ℤ = sided e x y ∷ slope e ∷ pos k ∷ [] in
-      rw (sided-right e x k y)
-      (le_of ρ (var 0) (var 0 ⊕ var 1 ⊗ var 2)
-      (omega (arith, le_to ρ (con (pos 0)) (var 1 ⊗ var 2) (mul_nonneg (non_neg_true (slope e) h) (pos-le (omega arith))))))
+      let more = mul_nonneg (non_neg_true (slope e) h) (pos-le {m = 0} {n = k} (omega arith)) in
+      omega (arith, ints, sided-right e x k y, more)
 
   pub falls : non_neg (slope e) ≡ false → sided e (x + k) y ≤ℤ sided e x y
   falls h =
-      let ρ : List ℤ = sided e x y ∷ slope e ∷ pos k ∷ [] in
-      let n : pos 0 ≤ℤ (pos 0 -ℤ slope e) =
-      le_of ρ (con (pos 0)) (con (pos 0) ⊖ var 1) (omega (arith, lt_to ρ (var 1) (con (pos 0)) (non_neg_false (slope e) h))) in
-      rw (sided-right e x k y)
-      (le_of ρ (var 0 ⊕ var 1 ⊗ var 2) (var 0)
-      (omega (arith, le_to ρ (con (pos 0)) ((con (pos 0) ⊖ var 1) ⊗ var 2) (mul_nonneg n (pos-le (omega arith))))))
+      let less = mul_nonneg {a = pos 0 -ℤ slope e} (omega (arith, ints, non_neg_false (slope e) h)) (pos-le {m = 0} {n = k} (omega arith)) in
+      grind (arith, ints, sided-right e x k y, less)

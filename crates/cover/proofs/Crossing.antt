@@ -3,15 +3,16 @@
 -- number everywhere. Said once over the edge.
 use Prim.Native.Nat.{ℕ, zero, suc, ◌+◌, ◌*◌, ◌-◌, ◌≤◌, ◌<◌}
 use mathlib.Core.Path.{◌≡◌, refl, sym, ◌∙◌, ap, subst}
-use mathlib.Core.List.{List, [], ◌∷◌}
+use mathlib.Core.List.{[], ◌∷◌}
 use mathlib.Core.Bool.{Bool, true, false, not, not-not}
 use native.Mathlib.Nat.{mul-le-mul}
 use native.Mathlib.Omega.{arith}
 use lib.Dec.{leb, ltb}
 use lib.IntN.{ℤ, pos, negsuc, ◌+ℤ◌, ◌-ℤ◌, ◌*ℤ◌}
 use lib.Signed.{non_neg}
+use Rattle.std.proofs.lemmas.Int.{ints}
 use Rattle.ints.proofs.Poly.{var, con, neg, ◌⊕◌, ◌⊖◌, ◌⊗◌, solve}
-use Rattle.ints.proofs.Order.{non_neg_true, non_neg_false, le_non_neg, lt_non_neg, le_of, le_to, lt_of, lt_to}
+use Rattle.ints.proofs.Order.{le_non_neg, lt_non_neg}
 use Rattle.ints.proofs.Bounds.{Within, within_pos, within_lit, within_sub, within_mul, within_le}
 use Rattle.rules.specs.declared.Vertices.{Vertices}
 use Rattle.rules.specs.Folds.{choose}
@@ -31,32 +32,12 @@ use Rattle.cover.proofs.Quotients.{rounded_crosses, rounded_sum, rounded_low, ro
 
 -- no column of a screen changes the sign of 640 times a whole number
 scaled : (z : ℤ) (x : ℕ) → x < 640 → non_neg (pos 640 *ℤ z +ℤ pos (1 * x)) ≡ non_neg z
-scaled z x h = go (non_neg z) refl
-  where
-    ρ : List ℤ
-    ρ = z ∷ pos (1 * x) ∷ []
-
-    go : (b : Bool) → non_neg z ≡ b → non_neg (pos 640 *ℤ z +ℤ pos (1 * x)) ≡ b
-    go true e =
-        le_non_neg (pos 640 *ℤ z +ℤ pos (1 * x))
-        (le_of ρ (con (pos 0)) (con (pos 640) ⊗ var 0 ⊕ var 1) (omega (arith, le_to ρ (con (pos 0)) (var 0) (non_neg_true z e))))
-    go false e =
-        lt_non_neg (pos 640 *ℤ z +ℤ pos (1 * x))
-        (lt_of ρ (con (pos 640) ⊗ var 0 ⊕ var 1) (con (pos 0)) (omega (arith, lt_to ρ (var 0) (con (pos 0)) (non_neg_false z e))))
+scaled (pos n) x h = le_non_neg (pos 640 *ℤ pos n +ℤ pos (1 * x)) (omega (arith, ints))
+scaled (negsuc n) x h = lt_non_neg (pos 640 *ℤ negsuc n +ℤ pos (1 * x)) (omega (arith, ints))
 
 opposed : (z : ℤ) → non_neg (negsuc 0 -ℤ z) ≡ not (non_neg z)
-opposed z = go (non_neg z) refl
-  where
-    ρ : List ℤ
-    ρ = z ∷ []
-
-    go : (b : Bool) → non_neg z ≡ b → non_neg (negsuc 0 -ℤ z) ≡ not b
-    go true e =
-        lt_non_neg (negsuc 0 -ℤ z)
-        (lt_of ρ (con (negsuc 0) ⊖ var 0) (con (pos 0)) (omega (arith, le_to ρ (con (pos 0)) (var 0) (non_neg_true z e))))
-    go false e =
-        le_non_neg (negsuc 0 -ℤ z)
-        (le_of ρ (con (pos 0)) (con (negsuc 0) ⊖ var 0) (omega (arith, lt_to ρ (var 0) (con (pos 0)) (non_neg_false z e))))
+opposed (pos n) = lt_non_neg (negsuc 0 -ℤ pos n) (omega (arith, ints))
+opposed (negsuc n) = le_non_neg (negsuc 0 -ℤ negsuc n) (omega (arith, ints))
 
 -- along a row and down a column
 

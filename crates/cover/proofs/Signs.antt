@@ -7,17 +7,13 @@ use lib.Dec.{T}
 use lib.IntN.{ℤ, pos, negsuc, ◌*ℤ◌}
 use lib.Signed.{lt_z}
 use mir.Syntax.{w64}
-use mir.Val.{SFits, to_z, of_z}
+use mir.Val.{to_z, of_z}
 use mir.ValLaws.{to_z-of_z}
-use borrow.Author.Tests.{lt-ltb, le-ltb}
+use borrow.Author.Tests.{lt-ltb}
 use Rattle.ints.proofs.Bounds.{Within, fits_64}
-use Rattle.ints.proofs.Machine.{got_lit, Code, known, ◌⊟◌, word_of, meant, fine, reads_as}
-use Rattle.rules.specs.Triangles.{positive, negative}
+use Rattle.ints.proofs.Machine.{Code, word_of, meant, fine, reads_as}
+use Rattle.rules.specs.Triangles.{positive}
 use Rattle.cover.specs.Side.{scale}
-
--- -1 - z
-abbrev pub opposed_c : Code w64 → Code w64
-opposed_c z = known (got_lit w64 18446744073709551615 tt) ⊟ z
 
 -- signs as the tests read them
 
@@ -25,17 +21,6 @@ pub above : (z : ℤ) → lt_z (pos 0) z ≡ positive z
 above (pos zero) = refl
 above (pos (suc n)) = lt-ltb 0 (suc n) (omega arith)
 above (negsuc n) = refl
-
-pub below : (z : ℤ) → lt_z z (pos 0) ≡ negative z
-below (pos n) = le-ltb n 0 (omega arith)
-below (negsuc n) = refl
-
--- one test of a machine number against 0, each way
-pub read_above : (z : ℤ) {b : Bool} → SFits w64 z → lt_z (pos 0) (to_z w64 (of_z w64 z)) ≡ b → positive z ≡ b
-read_above z f h = sym (above z) ∙ ap (lt_z (pos 0)) (sym (to_z-of_z w64 z f)) ∙ h
-
-pub read_below : (z : ℤ) {b : Bool} → SFits w64 z → lt_z (to_z w64 (of_z w64 z)) (pos 0) ≡ b → negative z ≡ b
-read_below z f h = sym (below z) ∙ ap (λ (k : ℤ). lt_z k (pos 0)) (sym (to_z-of_z w64 z f)) ∙ h
 
 -- a test of a computed number against 0
 pub code_above : (k : Code w64) (t : T (fine k)) {b : Bool} → lt_z (pos 0) (to_z w64 (word_of k)) ≡ b → positive (meant k) ≡ b
