@@ -3,5 +3,4 @@ pub mod Quotients
 pub mod Along
 pub mod Crossing
 pub mod Meeting
-pub mod Signs
 pub mod Unbroken
