@@ -2,19 +2,20 @@
 #![tactic(auto)]
 
 ghost use Rattle.std.specs.Prelude.{◌≡◌, true, length};
+ghost use Rattle.rules.specs.Answers.{number_of};
 ghost use Rattle.rules.specs.Sizes.{pixel};
 ghost use Rattle.rules.specs.Numbers.{screen_number, vertex_in_range, vertices_in_range};
 ghost use Rattle.client.specs.Pair.{CanPair, PairPainted, Pairs, pair_number, scene};
 
 use draw::triangles::draw;
 use reader::row_check;
-use rules::{Screen, Triangle, Vertices};
+use rules::{Refusal, Screen, Triangle, Vertices};
 use screen::clear::clear;
 
 fn vertex_in_range(v: i32) -> bool
     ensures { result ≡ vertex_in_range v }
 {
-    (-8192 <= v) & (v <= 8191)
+    (-8192..=8191).contains(&v)
 }
 
 fn vertices_in_range(v: Vertices) -> bool
@@ -29,19 +30,15 @@ fn vertices_in_range(v: Vertices) -> bool
 }
 
 // Row 0 is refused exactly where the screen is.
-fn pair_number(ram: &[u8], s: Screen, a: Triangle, b: Triangle) -> u32
-    ensures { result ≡ pair_number (length ram.now) s a b }
+#[tactic(auto, using(crate::proofs::Drawn::pair_refused, crate::proofs::Drawn::pair_numbered))]
+fn pair_check(ram: &[u8], s: Screen, a: Triangle, b: Triangle) -> Result<(), Refusal>
+    ensures { number_of result ≡ pair_number (length ram.now) s a b }
 {
-    let first = a.vertices;
-    let second = b.vertices;
-    let number = row_check(ram, s, 0);
-    if number != 0 {
-        return number;
-    }
-    if vertices_in_range(first) & vertices_in_range(second) {
-        0
+    row_check(ram, s, 0)?;
+    if vertices_in_range(a.vertices) && vertices_in_range(b.vertices) {
+        Ok(())
     } else {
-        6
+        Err(Refusal::VertexOutOfRange)
     }
 }
 
@@ -50,19 +47,24 @@ fn draw_pair(ram: &mut [u8], s: Screen, a: Triangle, b: Triangle, colour: u16, d
     requires { CanPair (length ram.old) s a b }
     ensures { PairPainted s (scene (pixel colour depth) a b) ram.old ram.new }
 {
-    clear(ram, s, colour, depth);
-    draw(ram, s, a);
-    draw(ram, s, b);
+    clear(ram, s, colour, depth).unwrap();
+    draw(ram, s, a).unwrap();
+    draw(ram, s, b).unwrap();
 }
 
 // Judged first, so that a refusal changes nothing.
-pub fn pair(ram: &mut [u8], s: Screen, a: Triangle, b: Triangle, colour: u16, depth: u16) -> u32
-    ensures { Pairs ram.old s (scene (pixel colour depth) a b) result ram.new }
+#[tactic(auto, using(crate::proofs::Drawn::can_pair))]
+pub fn pair(
+    ram: &mut [u8],
+    s: Screen,
+    a: Triangle,
+    b: Triangle,
+    colour: u16,
+    depth: u16,
+) -> Result<(), Refusal>
+    ensures { Pairs ram.old s (scene (pixel colour depth) a b) (number_of result) ram.new }
 {
-    let number = pair_number(ram, s, a, b);
-    if number != 0 {
-        return number;
-    }
+    pair_check(ram, s, a, b)?;
     draw_pair(ram, s, a, b, colour, depth);
-    0
+    Ok(())
 }
