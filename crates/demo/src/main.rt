@@ -1,9 +1,10 @@
 // Clears a 16 by 4 screen, draws two triangles that share an edge, and writes each pixel's colour as a digit.
 #![tactic(auto)]
 
-ghost use Rattle.std.specs.Prelude.{◌<◌, ◌≡◌, length};
-
-use rules::{Plane, Screen, Triangle, Vertices};
+use draw::triangles::draw;
+use reader::row;
+use rules::{Plane, Refusal, Screen, Triangle, Vertices};
+use screen::clear::clear;
 use std::io;
 
 // A plane that has the same value everywhere.
@@ -34,55 +35,59 @@ fn half_square(corner: i32, x2: i32, y2: i32, blue: i32) -> Triangle {
     }
 }
 
+// Why the demonstration can fail.
+#[derive(Debug, Drop)]
+enum Failure {
+    Refused(Refusal),
+    NotWritten(io::Error),
+}
+
+impl From<Refusal> for Failure {
+    fn from(refusal: Refusal) -> Failure {
+        Failure::Refused(refusal)
+    }
+}
+
+impl From<io::Error> for Failure {
+    fn from(error: io::Error) -> Failure {
+        Failure::NotWritten(error)
+    }
+}
+
 // The picture. Blue is bits 16 to 20 of its plane, so shade 1 is 65536 and shade 2 is 131072.
-fn paint(ram: &mut [u8], s: Screen) {
-    screen::clear::clear(ram, s, 0, 65535);
-    draw::triangles::draw(ram, s, half_square(0, 32, 0, 65536));
-    draw::triangles::draw(ram, s, half_square(32, 0, 32, 131072));
+fn paint(ram: &mut [u8], s: Screen) -> Result<(), Refusal> {
+    clear(ram, s, 0, 65535)?;
+    draw(ram, s, half_square(0, 32, 0, 65536))?;
+    draw(ram, s, half_square(32, 0, 32, 131072))?;
+    Ok(())
 }
 
-// The colour of pixel x of a row, which is below ten, as a digit. A row that was refused has zeros.
-fn digit(part: &[u8], x: usize) -> u8
-    requires { x < 16 }
-{
-    let low = 2 * x + 1;
-    if part.len() <= low {
-        return b'0';
+// A row's colours, which are below ten, as digits, and a new line. A row that was refused has zeros.
+fn digits(part: &[u8]) -> [u8; 17] {
+    let mut line = [b'0'; 17];
+    for (digit, [_, low]) in line.iter_mut().zip(part.as_chunks::<2>().0) {
+        *digit = b'0' + low % 10;
     }
-    b'0' + part[low] % 10
-}
-
-// A row's colours as digits, and a new line.
-fn digits(part: &[u8]) -> [u8; 17]
-    ensures { 17 ≡ length result }
-{
-    let mut line = [b'\n'; 17];
-    let mut x: usize = 0;
-    while x < 16 {
-        line[x] = digit(part, x);
-        x += 1;
-    }
+    line[16] = b'\n';
     line
 }
 
 // Writes the four rows.
 fn show(rt: &impl Print, ram: &[u8], s: Screen) -> io::Result<()> {
-    let mut y: u32 = 0;
-    while y < 4 {
-        let line = digits(reader::row(ram, s, y));
-        rt.write_all(&line)?;
-        y += 1;
+    for y in 0..4 {
+        rt.write_all(&digits(row(ram, s, y)))?;
     }
     Ok(())
 }
 
-fn main(rt: HostRuntime) -> io::Result<()> {
+fn main(rt: HostRuntime) -> Result<(), Failure> {
     let s = Screen {
         colour: 0,
         depth: 128,
         size: 516,
     };
     let mut ram = [0u8; 256];
-    paint(&mut ram, s);
-    show(&rt, &ram, s)
+    paint(&mut ram, s)?;
+    show(&rt, &ram, s)?;
+    Ok(())
 }
