@@ -10,17 +10,14 @@ use leaves::leaf_value;
 use ram::{load_half, store_half};
 use rules::Screen;
 use screen::sizes::{colour_at, depth_at};
+use std::array::from_fn;
 
 // The leaves' half-words, read before the leaves are judged, so that each is one load and the judging works on arrays alone.
 fn load_halves(ram: &[u8], first: usize) -> [u16; 16]
     requires { first + 31 < length ram.now }
     ensures { result ≡ halves ram.now first }
 {
-    let mut found = [0u16; 16];
-    for k in 0..16 {
-        found[k] = load_half(ram, first + 2 * k);
-    }
-    found
+    from_fn(|k| load_half(ram, first + 2 * k))
 }
 
 // TREEVAL 0. A leaf is judged against the depth that the screen has now, and not against its own.
