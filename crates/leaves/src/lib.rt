@@ -5,11 +5,12 @@ ghost use Rattle.std.specs.Prelude.{◌<◌, ◌≡◌};
 ghost use Rattle.rules.specs.Triangles.{positive, negative};
 ghost use Rattle.instructions.specs.Words.{signed};
 ghost use Rattle.leaves.specs.Channels.{channel_number};
-ghost use Rattle.instructions.specs.Tree.{refuses_place, tree_set, leaf_value, past_leaves, tree_in, replaced, tree_colour};
+ghost use Rattle.instructions.specs.Tree.{refuses_place, mask_bit, tree_set, leaf_value, past_leaves, tree_in, replaced, tree_colour};
 
 use instructions::Tree;
 use rules::Screen;
 use screen::sizes::{height, width};
+use std::array::from_fn;
 
 // What a TREEVAL above 0 replaces, numbered as its imm.
 #[derive(Clone, Copy, Debug, PartialEq, Eq)]
@@ -27,21 +28,24 @@ pub fn refuses_place(s: Screen, column: u32, row: u32) -> bool
     !((column % 16 == 0) & (column < width(s.size)) & (row < height(s.size)))
 }
 
-// TREESET's tree. Bit 15 of the mask is for leaf 0.
+// Bit 15 of the mask is for leaf 0.
+#[tactic(auto, unfolding(instructions::specs::Tree::mask_bit))]
+fn mask_bit(mask: u32, k: usize) -> bool
+    requires { k < 16 }
+    ensures { result ≡ mask_bit mask k }
+{
+    (mask >> (15 - k)) % 2 == 1
+}
+
+// TREESET's tree. The marks I are the marks O turned, all at once, which is less than the mask's bits once more.
 pub fn tree_set(column: u32, row: u32, mask: u32) -> Tree
     ensures { result ≡ tree_set column row mask }
 {
-    let mut inside = [false; 16];
-    let mut outside = [false; 16];
-    for k in 0..16 {
-        let set = (mask >> (15 - k)) % 2 == 1;
-        inside[k] = set;
-        outside[k] = !set;
-    }
+    let outside: [bool; 16] = from_fn(|k| !mask_bit(mask, k));
     Tree {
         column,
         row,
-        inside,
+        inside: from_fn(|k| !outside[k]),
         outside,
         colour: [0; 16],
         depth: [0; 16],
@@ -81,11 +85,8 @@ pub fn leaf_value(a: u32, b: u32, k: usize) -> u32
 pub fn tree_in(tree: &mut Tree, a: u32, b: u32)
     ensures { tree.new ≡ tree_in a b tree.old }
 {
-    for k in 0..16 {
-        let v = leaf_value(a, b, k);
-        tree.inside[k] &= !positive(v);
-        tree.outside[k] |= negative(v);
-    }
+    tree.inside = from_fn(|k| tree.inside[k] & !positive(leaf_value(a, b, k)));
+    tree.outside = from_fn(|k| tree.outside[k] | negative(leaf_value(a, b, k)));
 }
 
 // A colour with one channel replaced by what is in the top half of `v`.
@@ -105,7 +106,5 @@ fn replaced(channel: Channel, v: u32, c: u16) -> u16
 pub fn tree_colour(tree: &mut Tree, channel: Channel, a: u32, b: u32)
     ensures { tree.new ≡ tree_colour (channel_number channel) a b tree.old }
 {
-    for k in 0..16 {
-        tree.colour[k] = replaced(channel, leaf_value(a, b, k), tree.colour[k]);
-    }
+    tree.colour = from_fn(|k| replaced(channel, leaf_value(a, b, k), tree.colour[k]));
 }

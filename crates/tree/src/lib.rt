@@ -26,13 +26,10 @@ pub fn tree_depth(ram: &[u8], s: Screen, tree: &mut Tree, a: u32, b: u32)
     ensures { tree.new ≡ tree_depth s ram.now a b tree.old }
 {
     let found = load_halves(ram, depth_at(s, tree.column, tree.row));
-    for k in 0..16 {
-        let z = (leaf_value(a, b, k) / 65536) as u16;
-        let deep = found[k] < z;
-        tree.inside[k] &= !deep;
-        tree.outside[k] |= deep;
-        tree.depth[k] = z;
-    }
+    let depth: [u16; 16] = from_fn(|k| (leaf_value(a, b, k) / 65536) as u16);
+    tree.inside = from_fn(|k| tree.inside[k] & !(found[k] < depth[k]));
+    tree.outside = from_fn(|k| tree.outside[k] | (found[k] < depth[k]));
+    tree.depth = depth;
     tree.held = true;
 }
 
