@@ -41,7 +41,6 @@ module _ {l : Line} {a : ℕ} {m : Masks} {d : Drawing} (q : ChunkAsked l a m d)
   word_asked e =
       record {
         is_sound = q.is_sound;
-        row = q.row;
         says = e ∙ masks-joined (λ k. covered_in l (chunk_at a + k)) q.masks;
         begins = q.begins;
         room = q.room.to_write;
@@ -139,7 +138,6 @@ module _ {l : Line} {from to : ℕ} {d₀ : Drawing} (q : RowAsked l (record { s
       chunk_asked {past} p e =
           record {
             is_sound = subst (λ (n : ℕ). sound n l.screen ≡ true) (sym length-across) q.is_sound;
-            row = q.row;
             masks = masks_same (in_span (a % 16) past) (λ j. covered_in l (chunk_at a + j)) same e;
             begins = within a u.begun h;
             no_earlier = no_earlier;

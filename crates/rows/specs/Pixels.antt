@@ -2,7 +2,7 @@
 use Rattle.std.specs.Prelude.{ℕ, ◌+◌, ◌-◌, ◌%◌, ◌<◌, ◌≡◌, Bool, true, List, leb, length}
 use Rattle.rules.specs.Folds.{upto, bit, how_many, choose}
 use Rattle.ram.specs.Ram.{load_half, store_half}
-use Rattle.rules.specs.Sizes.{height, sound}
+use Rattle.rules.specs.Sizes.{sound}
 use Rattle.masks.specs.Mask.{mask_of}
 use Rattle.planes.specs.declared.Tints.{Tints}
 use Rattle.planes.specs.Planes.{tint_depth, tint_colour}
@@ -30,7 +30,6 @@ chunk_from a = 64 - a % 16
 -- the bits of the word of 64 are the covered pixels of a's chunk, and a's is set
 pub record WordAsked (l : Line) (a wide : ℕ) (before : Writing) : Type 0 where
   pub is_sound : sound (length before.ram) l.screen ≡ true
-  pub row : l.row < height l.screen.size
   pub says : wide ≡ mask_of (λ k. covered_in l (chunk_at a + k)) 64
   pub begins : covered_in l a ≡ true
   pub room : before.count + 64 < 4294967296

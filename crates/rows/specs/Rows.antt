@@ -1,7 +1,7 @@
 -- What drawing a chunk and a row promises.
 use Rattle.std.specs.Prelude.{ℕ, ◌+◌, ◌≤◌, ◌<◌, ◌≡◌, ◌≢◌, Bool, true, false, length}
 use Rattle.rules.specs.Folds.{upto, how_many}
-use Rattle.rules.specs.Sizes.{width, height, sound}
+use Rattle.rules.specs.Sizes.{width, sound}
 use Rattle.rules.specs.Triangles.{row_drawn}
 use Rattle.masks.specs.declared.Masks.{Masks}
 use Rattle.masks.specs.Mask.{MasksOf}
@@ -20,7 +20,6 @@ pub record Room (c : Counts) (k : ℕ) : Type 0 where
 -- each group's mask has its covered pixels; a is the first of them
 pub record ChunkAsked (l : Line) (a : ℕ) (m : Masks) (before : Drawing) : Type 0 where
   pub is_sound : sound (length before.ram) l.screen ≡ true
-  pub row : l.row < height l.screen.size
   pub masks : MasksOf (λ k. covered_in l (chunk_at a + k)) m
   pub begins : covered_in l a ≡ true
   pub no_earlier : (x : ℕ) → chunk_at a ≤ x → x < a → covered_in l x ≡ false
@@ -34,7 +33,6 @@ pub record ChunkDone (l : Line) (a : ℕ) (before after : Drawing) : Type 0 wher
 -- the row's covered pixels are those of the span
 pub record RowAsked (l : Line) (columns : Range ℕ) (before : Drawing) : Type 0 where
   pub is_sound : sound (length before.ram) l.screen ≡ true
-  pub row : l.row < height l.screen.size
   pub ordered : columns.start ≤ columns.end
   pub limited : columns.end ≤ width l.screen.size
   pub spans : (x : ℕ) → x < width l.screen.size → covered_in l x ≡ in_span columns.start columns.end x
@@ -43,7 +41,6 @@ pub record RowAsked (l : Line) (columns : Range ℕ) (before : Drawing) : Type 0
 -- of the row pixel x alone can be covered, and is where `on` says so
 pub record LoneAsked (l : Line) (x : ℕ) (on : Bool) (before : Drawing) : Type 0 where
   pub is_sound : sound (length before.ram) l.screen ≡ true
-  pub row : l.row < height l.screen.size
   pub across : x < width l.screen.size
   pub here : covered_in l x ≡ on
   pub others : (k : ℕ) → k < width l.screen.size → k ≢ x → covered_in l k ≡ false

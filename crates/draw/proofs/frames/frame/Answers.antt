@@ -40,7 +40,6 @@ row-c-requires c =
     (c.row_span.ensures a.t.vertices l.y c.requires.in_range (omega (arith, row, height-le f)) c.sides-d.ensures l.invariant.1) in
     record {
       is_sound = subst (λ (n : ℕ). sound n a.s ≡ true) (sym (length-down l.invariant.0)) c.requires.is_sound;
-      row = row;
       ordered = r.ordered;
       limited = r.limited;
       spans = λ x h. covered-is (line a.s a.t l.y) (record { across = h; down = row }) ∙ r.spans x h;

@@ -32,7 +32,6 @@ lone-c-requires c =
     let r = line a.s a.t l.y in
     record {
       is_sound = subst (λ (n : ℕ). sound n a.s ≡ true) (sym (length-down l.invariant)) c.requires.asked.is_sound;
-      row = row;
       across = c.requires.lies_on_screen;
       here = covered-is r (record { across = c.requires.lies_on_screen; down = row }) ∙ sym c.inside_all.ensures;
       others = λ k h n. covered-is r (record { across = h; down = row }) ∙ c.requires.others k l.y h n;

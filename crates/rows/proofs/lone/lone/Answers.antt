@@ -11,6 +11,7 @@ use Rattle.rows.specs.declared.Line.{Line}
 use Rattle.rows.specs.Lines.{covered_in, writing}
 use Rattle.rows.specs.Pixels.{PixelDone}
 use Rattle.rows.proofs.Covered.{pixel-counts, pixel-leaves}
+use Rattle.rows.proofs.Stretch.{covered_on}
 use Rattle.rows.proofs.Single.{one_leaf, lone_off, lone_on}
 use Rattle.rows.proofs.lone.lone.Goals as goal
 
@@ -20,12 +21,12 @@ returns-then-not-on c = lone_off c.requires c.if-not-on.true
 pub pixel-requires-clause-colour : goal.pixel-requires-clause-colour
 pixel-requires-clause-colour c =
     let facts : Sound (length c.args.ram.now) c.args.line.screen = sound_facts c.requires.is_sound in
-    omega (arith, c.colour_at-colour.ensures, colour-fits facts (record { across = c.requires.across; down = c.requires.row }))
+    omega (arith, c.colour_at-colour.ensures, colour-fits facts (covered_on c.args.line (c.requires.here ∙ c.if-not-on.false)))
 
 pub pixel-requires-clause-depth : goal.pixel-requires-clause-depth
 pixel-requires-clause-depth c =
     let facts : Sound (length c.args.ram.now) c.args.line.screen = sound_facts c.requires.is_sound in
-    omega (arith, c.depth_at-depth.ensures, depth-fits facts (record { across = c.requires.across; down = c.requires.row }))
+    omega (arith, c.depth_at-depth.ensures, depth-fits facts (covered_on c.args.line (c.requires.here ∙ c.if-not-on.false)))
 
 pub returns : goal.returns
 returns c =
