@@ -72,10 +72,6 @@ module _ (v : Vertices) (r : Values) where
     unfolding has_no_plane
     area_outside k = rw (h, k)
 
-    pub plane_outside : positive (doubled_area v) ≡ true → has_no_plane v r ≡ not (plane_in_range (plane_through v r))
-    unfolding has_no_plane
-    plane_outside k = rw (h, k)
-
   pub record Numbered : Type 0 where
     pub done : (through_number v r ≡ 0) ↔ ((vertices_in_range v ≡ true) × HasPlane v r)
     pub six : (through_number v r ≡ 6) ↔ (vertices_in_range v ≡ false)
