@@ -3,13 +3,13 @@ ghost use Rattle.std.specs.Prelude.{◌≡◌, ◌≤◌, nat_abs, ◌*ℤ◌};
 ghost use Rattle.cover.specs.Units.{Raisable, Rounded};
 ghost use Rattle.cover.specs.Side.{across, scale};
 
-use crate::units::rounded_up;
+use crate::units::{UNIT, rounded_up};
 
 // UNIT as a signed number.
-const SCALE: i64 = 67108864;
+const SCALE: i64 = UNIT as i64;
 
 // 640 times that: the ticks of all columns.
-const LEVEL_SCALE: i64 = 42949672960;
+const LEVEL_SCALE: i64 = 640 * SCALE;
 
 // What one column adds to the rising value, and 1 where that is nothing.
 fn across(dy: i64) -> u64

@@ -5,13 +5,13 @@ ghost use Rattle.rules.specs.Triangles.{negative};
 ghost use Rattle.cover.specs.Units.{Raisable, Rounded};
 
 // A column, in ticks: more than a step across times the rows of a screen, so that a rounding in each row misjudges no pixel.
-pub const UNIT: u64 = 67108864;
+pub const UNIT: u64 = 1 << 26;
 
 // What a crossing is raised by, so that none is negative.
-pub const RAISE: u64 = 9223372036854775808;
+pub const RAISE: u64 = 1 << 63;
 
 // What a step down is raised by.
-pub const LIFT: u64 = 9007199254740992;
+pub const LIFT: u64 = 1 << 53;
 
 // z, or -1 - z where z is negative.
 fn folded(z: i64) -> u64
