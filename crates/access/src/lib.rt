@@ -29,29 +29,31 @@ fn data_address(w: u32, regs: &Registers) -> Result<usize, Halt>
     Ok(a as usize)
 }
 
-pub fn do_ld(w: u32, memory: &[u32; 1024], regs: &mut Registers, cpu: Cpu) -> Result<Cpu, Halt>
+pub fn do_ld(w: u32, memory: &[u32; 1024], regs: &mut Registers, cpu: &mut Cpu) -> Result<(), Halt>
     requires opcode { opcode w ≡ LD }
-    requires inside { cpu.place < 1024 }
-    ensures { DataSteps w (plain regs.old.words cpu memory.now) (plain_after regs.new.words cpu result memory.now) }
+    requires inside { cpu.old.place < 1024 }
+    ensures { DataSteps w (plain regs.old.words cpu.old memory.now) (plain_after regs.new.words cpu.new (halt_of result) memory.now) }
 {
     let a = data_address(w, regs)?;
-    Ok(regs.put_result(w, cpu, memory[a]))
+    regs.put_result(w, cpu, memory[a]);
+    Ok(())
 }
 
-pub fn do_st(w: u32, memory: &mut [u32; 1024], regs: &Registers, cpu: Cpu) -> Result<Cpu, Halt>
+pub fn do_st(w: u32, memory: &mut [u32; 1024], regs: &Registers, cpu: &mut Cpu) -> Result<(), Halt>
     requires opcode { opcode w ≡ ST }
-    requires inside { cpu.place < 1024 }
-    ensures { DataSteps w (plain regs.now.words cpu memory.old) (plain_after regs.now.words cpu result memory.new) }
+    requires inside { cpu.old.place < 1024 }
+    ensures { DataSteps w (plain regs.now.words cpu.old memory.old) (plain_after regs.now.words cpu.new (halt_of result) memory.new) }
 {
     let a = data_address(w, regs)?;
     memory[a] = regs.in_r1(w);
-    Ok(cpu.onward())
+    cpu.onward();
+    Ok(())
 }
 
-pub fn do_dot(w: u32, memory: &[u32; 1024], regs: &mut Registers, cpu: Cpu) -> Result<Cpu, Halt>
+pub fn do_dot(w: u32, memory: &[u32; 1024], regs: &mut Registers, cpu: &mut Cpu) -> Result<(), Halt>
     requires opcode { opcode w ≡ DOT }
-    requires inside { cpu.place < 1024 }
-    ensures { DataSteps w (plain regs.old.words cpu memory.now) (plain_after regs.new.words cpu result memory.now) }
+    requires inside { cpu.old.place < 1024 }
+    ensures { DataSteps w (plain regs.old.words cpu.old memory.now) (plain_after regs.new.words cpu.new (halt_of result) memory.now) }
 {
     let a = regs.in_r2(w);
     let b = regs.in_r3(w);
@@ -59,7 +61,8 @@ pub fn do_dot(w: u32, memory: &[u32; 1024], regs: &mut Registers, cpu: Cpu) -> R
         return Err(Halt::OutsideData);
     }
     let v = dot(memory, a as usize, b as usize);
-    Ok(regs.put_result(w, cpu, v))
+    regs.put_result(w, cpu, v);
+    Ok(())
 }
 
 pub fn do_read(
@@ -67,17 +70,18 @@ pub fn do_read(
     regs: &Registers,
     memory: &mut [u32; 1024],
     ram: &[u8],
-    cpu: Cpu,
-) -> Result<Cpu, Halt>
+    cpu: &mut Cpu,
+) -> Result<(), Halt>
     requires opcode { opcode w ≡ READ }
-    requires inside { cpu.place < 1024 }
-    ensures { Steps w (plain regs.now.words cpu memory.old ram.now) (plain_after regs.now.words cpu result memory.new ram.now) }
+    requires inside { cpu.old.place < 1024 }
+    ensures { Steps w (plain regs.now.words cpu.old memory.old ram.now) (plain_after regs.now.words cpu.new (halt_of result) memory.new ram.now) }
 {
     let word = regs.in_r1(w);
     let byte = regs.in_r2(w);
     move_check(ram.len(), word, byte)?;
     read_words(memory, ram, word as usize, byte as usize);
-    Ok(cpu.onward())
+    cpu.onward();
+    Ok(())
 }
 
 pub fn do_write(
@@ -85,15 +89,16 @@ pub fn do_write(
     regs: &Registers,
     memory: &[u32; 1024],
     ram: &mut [u8],
-    cpu: Cpu,
-) -> Result<Cpu, Halt>
+    cpu: &mut Cpu,
+) -> Result<(), Halt>
     requires opcode { opcode w ≡ WRITE }
-    requires inside { cpu.place < 1024 }
-    ensures { Steps w (plain regs.now.words cpu memory.now ram.old) (plain_after regs.now.words cpu result memory.now ram.new) }
+    requires inside { cpu.old.place < 1024 }
+    ensures { Steps w (plain regs.now.words cpu.old memory.now ram.old) (plain_after regs.now.words cpu.new (halt_of result) memory.now ram.new) }
 {
     let word = regs.in_r1(w);
     let byte = regs.in_r2(w);
     move_check(ram.len(), word, byte)?;
     write_words(ram, memory, word as usize, byte as usize);
-    Ok(cpu.onward())
+    cpu.onward();
+    Ok(())
 }

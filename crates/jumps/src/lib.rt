@@ -12,87 +12,88 @@ use pieces::registers::Registers;
 use pieces::state::Cpu;
 
 // A conditional jump: to the address where the jump goes, else to the next place.
-fn jump_if(test: bool, w: u32, regs: &Registers, cpu: Cpu) -> Cpu
+fn jump_if(test: bool, w: u32, regs: &Registers, cpu: &mut Cpu)
     requires low { JEQ ≤ opcode w }
     requires high { opcode w ≤ JGEL }
-    requires inside { cpu.place < 1024 }
-    requires defined { goes (opcode w) cpu.negative cpu.zero ≡ test }
-    ensures { RegisterSteps w regs.now.words cpu regs.now.words result }
+    requires inside { cpu.old.place < 1024 }
+    requires defined { goes (opcode w) cpu.old.negative cpu.old.zero ≡ test }
+    ensures { RegisterSteps w regs.now.words cpu.old regs.now.words cpu.new }
 {
     if test {
-        return cpu.at(regs.address(w));
+        cpu.jump(regs.address(w));
+        return;
     }
-    cpu.onward()
+    cpu.onward();
 }
 
-pub fn do_jmp(w: u32, regs: &Registers, cpu: Cpu) -> Cpu
+pub fn do_jmp(w: u32, regs: &Registers, cpu: &mut Cpu)
     requires { opcode w ≡ JMP }
-    ensures { RegisterSteps w regs.now.words cpu regs.now.words result }
+    ensures { RegisterSteps w regs.now.words cpu.old regs.now.words cpu.new }
 {
-    cpu.at(regs.address(w))
+    cpu.jump(regs.address(w));
 }
 
 // The address is worked out before R31 is written.
-pub fn do_call(w: u32, regs: &mut Registers, cpu: Cpu) -> Cpu
+pub fn do_call(w: u32, regs: &mut Registers, cpu: &mut Cpu)
     requires opcode { opcode w ≡ CALL }
-    requires inside { cpu.place < 1024 }
-    ensures { RegisterSteps w regs.old.words cpu regs.new.words result }
+    requires inside { cpu.old.place < 1024 }
+    ensures { RegisterSteps w regs.old.words cpu.old regs.new.words cpu.new }
 {
     let to = regs.address(w);
     regs.put(31, cpu.place + 1);
-    cpu.at(to)
+    cpu.jump(to);
 }
 
 #[tactic(auto, unfolding(instructions::specs::Jumps::goes))]
-pub fn do_jeq(w: u32, regs: &Registers, cpu: Cpu) -> Cpu
+pub fn do_jeq(w: u32, regs: &Registers, cpu: &mut Cpu)
     requires opcode { is_plain_or_likely JEQ (opcode w) ≡ true }
-    requires inside { cpu.place < 1024 }
-    ensures { RegisterSteps w regs.now.words cpu regs.now.words result }
+    requires inside { cpu.old.place < 1024 }
+    ensures { RegisterSteps w regs.now.words cpu.old regs.now.words cpu.new }
 {
-    jump_if(cpu.zero, w, regs, cpu)
+    jump_if(cpu.zero, w, regs, cpu);
 }
 
 #[tactic(auto, unfolding(instructions::specs::Jumps::goes))]
-pub fn do_jne(w: u32, regs: &Registers, cpu: Cpu) -> Cpu
+pub fn do_jne(w: u32, regs: &Registers, cpu: &mut Cpu)
     requires opcode { is_plain_or_likely JNE (opcode w) ≡ true }
-    requires inside { cpu.place < 1024 }
-    ensures { RegisterSteps w regs.now.words cpu regs.now.words result }
+    requires inside { cpu.old.place < 1024 }
+    ensures { RegisterSteps w regs.now.words cpu.old regs.now.words cpu.new }
 {
-    jump_if(!cpu.zero, w, regs, cpu)
+    jump_if(!cpu.zero, w, regs, cpu);
 }
 
 #[tactic(auto, unfolding(instructions::specs::Jumps::goes))]
-pub fn do_jlt(w: u32, regs: &Registers, cpu: Cpu) -> Cpu
+pub fn do_jlt(w: u32, regs: &Registers, cpu: &mut Cpu)
     requires opcode { is_plain_or_likely JLT (opcode w) ≡ true }
-    requires inside { cpu.place < 1024 }
-    ensures { RegisterSteps w regs.now.words cpu regs.now.words result }
+    requires inside { cpu.old.place < 1024 }
+    ensures { RegisterSteps w regs.now.words cpu.old regs.now.words cpu.new }
 {
-    jump_if(cpu.negative, w, regs, cpu)
+    jump_if(cpu.negative, w, regs, cpu);
 }
 
 #[tactic(auto, unfolding(instructions::specs::Jumps::goes))]
-pub fn do_jle(w: u32, regs: &Registers, cpu: Cpu) -> Cpu
+pub fn do_jle(w: u32, regs: &Registers, cpu: &mut Cpu)
     requires opcode { is_plain_or_likely JLE (opcode w) ≡ true }
-    requires inside { cpu.place < 1024 }
-    ensures { RegisterSteps w regs.now.words cpu regs.now.words result }
+    requires inside { cpu.old.place < 1024 }
+    ensures { RegisterSteps w regs.now.words cpu.old regs.now.words cpu.new }
 {
-    jump_if(cpu.negative | cpu.zero, w, regs, cpu)
+    jump_if(cpu.negative | cpu.zero, w, regs, cpu);
 }
 
 #[tactic(auto, unfolding(instructions::specs::Jumps::goes))]
-pub fn do_jgt(w: u32, regs: &Registers, cpu: Cpu) -> Cpu
+pub fn do_jgt(w: u32, regs: &Registers, cpu: &mut Cpu)
     requires opcode { is_plain_or_likely JGT (opcode w) ≡ true }
-    requires inside { cpu.place < 1024 }
-    ensures { RegisterSteps w regs.now.words cpu regs.now.words result }
+    requires inside { cpu.old.place < 1024 }
+    ensures { RegisterSteps w regs.now.words cpu.old regs.now.words cpu.new }
 {
-    jump_if(!cpu.negative & !cpu.zero, w, regs, cpu)
+    jump_if(!cpu.negative & !cpu.zero, w, regs, cpu);
 }
 
 #[tactic(auto, unfolding(instructions::specs::Jumps::goes))]
-pub fn do_jge(w: u32, regs: &Registers, cpu: Cpu) -> Cpu
+pub fn do_jge(w: u32, regs: &Registers, cpu: &mut Cpu)
     requires opcode { is_plain_or_likely JGE (opcode w) ≡ true }
-    requires inside { cpu.place < 1024 }
-    ensures { RegisterSteps w regs.now.words cpu regs.now.words result }
+    requires inside { cpu.old.place < 1024 }
+    ensures { RegisterSteps w regs.now.words cpu.old regs.now.words cpu.new }
 {
-    jump_if(!cpu.negative, w, regs, cpu)
+    jump_if(!cpu.negative, w, regs, cpu);
 }

@@ -23,7 +23,7 @@ use Rattle.instructions.proofs.Effects.{effect-result, effect-CALL, effect_jump}
 use Rattle.pieces.specs.declared.state.Cpu.{Cpu}
 use Rattle.pieces.specs.declared.state.View.{View}
 use Rattle.pieces.specs.Pieces.{joined, machine, at, resulted}
-use Rattle.pieces.specs.Steps.{stepped, left, RegisterSteps}
+use Rattle.pieces.specs.Steps.{stepped, RegisterSteps}
 use Rattle.pieces.proofs.Cases.{case-none}
 
 -- what stands before the jumps is none
@@ -52,10 +52,10 @@ module _ (regs : List ℕ) (cpu : Cpu) (view : View) (memory ram : List ℕ) (w 
   stops h e = rw (e, ne_eqb (number_of_halt h) 0 (halt-not_zero h))
 
   -- where the halt comes by a `?`
-  pub stops_with : (h : Halt) (answer : Result Cpu Halt)
+  pub stops_with : (h : Halt) (answer : Result (Unit {0}) Halt)
       → IsErrAnd answer (λ e. e ≡ h)
       → halt ≡ number_of_halt h
-      → machine regs (left cpu answer) (halt_of answer) view memory ram ≡ stepped before w
+      → machine regs cpu (halt_of answer) view memory ram ≡ stepped before w
   stops_with h (Ok next) x e = absurd x
   stops_with h (Err g) x e = rw x (stops h e)
 

@@ -1,9 +1,7 @@
 -- What a step may count on, and what it leaves, in pieces.
-use Rattle.std.specs.Prelude.{ℕ, ◌≤◌, ◌≡◌, true, false, List, length, eqb, Result, Ok, Err}
+use Rattle.std.specs.Prelude.{ℕ, ◌≤◌, ◌≡◌, true, false, List, length, eqb}
 use Rattle.rules.specs.Folds.{choose}
 use Rattle.rules.specs.Sizes.{ram_limit, sound}
-use Rattle.instructions.specs.declared.Halt.{Halt}
-use Rattle.instructions.specs.Answers.{halt_of}
 use Rattle.instructions.specs.Opcodes.{current}
 use Rattle.instructions.specs.Tree.{refuses_place}
 use Rattle.instructions.specs.Halts.{word_halt}
@@ -18,11 +16,6 @@ stepped m w =
     choose (eqb (word_halt current (length m.ram) m.state w) 0) (performed m w)
     (with_state (with_halt (word_halt current (length m.ram) m.state w) m.state) m)
 
--- after a step that answers where it goes on or its halt: a halt moves nothing
-abbrev pub left : Cpu → Result Cpu Halt → Cpu
-left cpu (Ok next) = next
-left cpu (Err _) = cpu
-
 -- what an instruction up to WRITE touches, and its halt's number, 0 for none
 pub record Plain : Type 0 where
   pub regs : List ℕ
@@ -34,14 +27,8 @@ pub record Plain : Type 0 where
 abbrev pub plain : List ℕ → Cpu → List ℕ → List ℕ → Plain
 plain regs cpu memory ram = record { regs = regs; cpu = cpu; halt = 0; memory = memory; ram = ram }
 
-abbrev pub plain_after : List ℕ → Cpu → Result Cpu Halt → List ℕ → List ℕ → Plain
-plain_after regs cpu answer memory ram = record {
-  regs = regs;
-  cpu = left cpu answer;
-  halt = halt_of answer;
-  memory = memory;
-  ram = ram;
-}
+abbrev pub plain_after : List ℕ → Cpu → ℕ → List ℕ → List ℕ → Plain
+plain_after regs cpu halt memory ram = record { regs = regs; cpu = cpu; halt = halt; memory = memory; ram = ram }
 
 -- its step, which may be a halt, whatever screen and tree there are
 abbrev pub Steps : ℕ → Plain → Plain → Type 0
@@ -70,14 +57,8 @@ pub record Viewing : Type 0 where
 abbrev pub viewing : List ℕ → Cpu → View → List ℕ → Viewing
 viewing regs cpu view ram = record { regs = regs; cpu = cpu; halt = 0; view = view; ram = ram }
 
-abbrev pub viewing_after : List ℕ → Cpu → Result Cpu Halt → View → List ℕ → Viewing
-viewing_after regs cpu answer view ram = record {
-  regs = regs;
-  cpu = left cpu answer;
-  halt = halt_of answer;
-  view = view;
-  ram = ram;
-}
+abbrev pub viewing_after : List ℕ → Cpu → ℕ → View → List ℕ → Viewing
+viewing_after regs cpu halt view ram = record { regs = regs; cpu = cpu; halt = halt; view = view; ram = ram }
 
 -- its step, which may be a halt, whatever the data memory holds
 abbrev pub ViewSteps : ℕ → Viewing → Viewing → Type 0

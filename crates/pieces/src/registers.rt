@@ -51,16 +51,14 @@ impl Registers {
     }
 
     // A result goes to r1, and the flags follow it even when R0 is the target.
-    pub fn put_result(&mut self, w: u32, cpu: Cpu, v: u32) -> Cpu
-        requires { cpu.place < 1024 }
+    pub fn put_result(&mut self, w: u32, cpu: &mut Cpu, v: u32)
+        requires { cpu.old.place < 1024 }
         ensures registers { self.new.words ≡ with_register self.old.words (r1 w) v }
-        ensures cpu { result ≡ resulted v cpu }
+        ensures cpu { cpu.new ≡ resulted v cpu.old }
     {
         self.put(r1(w), v);
-        Cpu {
-            place: cpu.place + 1,
-            negative: negative_flag(v),
-            zero: zero_flag(v),
-        }
+        cpu.place += 1;
+        cpu.negative = negative_flag(v);
+        cpu.zero = zero_flag(v);
     }
 }

@@ -63,18 +63,18 @@ pub fn joined(regs: [u32; 32], cpu: Cpu, halt: u32, view: &View) -> State
 }
 
 impl Cpu {
-    pub fn at(self, place: u32) -> Cpu
-        ensures { result ≡ at place self }
+    pub fn jump(&mut self, place: u32)
+        ensures { self.new ≡ at place self.old }
     {
-        Cpu { place, ..self }
+        self.place = place;
     }
 
     // The next place: only a place in the program is stepped from, so the sum fits.
-    pub fn onward(self) -> Cpu
-        requires { self.place < 1024 }
-        ensures { result ≡ at (self.place + 1) self }
+    pub fn onward(&mut self)
+        requires { self.old.place < 1024 }
+        ensures { self.new ≡ at (self.old.place + 1) self.old }
     {
-        self.at(self.place + 1)
+        self.place += 1;
     }
 }
 

@@ -21,7 +21,7 @@ use Rattle.instructions.proofs.WellFormed.{WellFormed, well_formed_facts, step_w
 use Rattle.pieces.specs.declared.state.Cpu.{Cpu}
 use Rattle.pieces.specs.declared.state.View.{View}
 use Rattle.pieces.specs.Pieces.{machine}
-use Rattle.pieces.specs.Steps.{stepped, left, Shows}
+use Rattle.pieces.specs.Steps.{stepped, Shows}
 use Rattle.runs.specs.Runs.{Ready, Ends}
 
 module _ (program : List ℕ) (m : Machine) (h : m.state.halt ≡ 0) where
@@ -40,11 +40,11 @@ module _ (program : List ℕ) (m : Machine) (h : m.state.halt ≡ 0) where
   running : is_halted m ≡ false
   running = ap not (eq-eqb m.state.halt 0 h)
 
-pub stops_past : (program regs : List ℕ) (cpu : Cpu) (view : View) (memory ram : List ℕ) (answer : Result Cpu Halt) (h : Halt)
+pub stops_past : (program regs : List ℕ) (cpu : Cpu) (view : View) (memory ram : List ℕ) (answer : Result (Unit {0}) Halt) (h : Halt)
     → IsErrAnd answer (λ e. e ≡ h)
     → number_of_halt h ≡ 12
     → length program ≤ cpu.place
-    → machine regs (left cpu answer) (halt_of answer) view memory ram ≡ step current program (machine regs cpu 0 view memory ram)
+    → machine regs cpu (halt_of answer) view memory ram ≡ step current program (machine regs cpu 0 view memory ram)
 unfolding with_halt
 stops_past program regs cpu view memory ram (Ok next) h x e p = absurd x
 stops_past program regs cpu view memory ram (Err g) h x e p = rw (x, e) (step_past program (machine regs cpu 0 view memory ram) refl p)

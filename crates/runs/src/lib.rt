@@ -6,7 +6,6 @@ ghost use Rattle.instructions.specs.Answers.{halt_of};
 ghost use Rattle.instructions.specs.Opcodes.{current};
 ghost use Rattle.instructions.specs.Step.{step};
 ghost use Rattle.pieces.specs.Pieces.{machine};
-ghost use Rattle.pieces.specs.Steps.{left};
 ghost use Rattle.runs.specs.Runs.{Ends, Ready, number_of_end};
 
 use alu::fields::opcode;
@@ -42,11 +41,11 @@ fn step(
     regs: &mut Registers,
     memory: &mut [u32; 1024],
     ram: &mut [u8],
-    cpu: Cpu,
+    cpu: &mut Cpu,
     view: &mut View,
-) -> Result<Cpu, Halt>
-    requires { Ready program.now (machine regs.old.words cpu 0 view.old memory.old ram.old) }
-    ensures { machine regs.new.words (left cpu result) (halt_of result) view.new memory.new ram.new ≡ step current program.now (machine regs.old.words cpu 0 view.old memory.old ram.old) }
+) -> Result<(), Halt>
+    requires { Ready program.now (machine regs.old.words cpu.old 0 view.old memory.old ram.old) }
+    ensures { machine regs.new.words cpu.new (halt_of result) view.new memory.new ram.new ≡ step current program.now (machine regs.old.words cpu.old 0 view.old memory.old ram.old) }
 {
     let w = *program.get(cpu.place as usize).ok_or(Halt::PastProgram)?;
     if opcode(w) <= WRITE {
@@ -71,15 +70,12 @@ pub fn run(
     let words = memory.as_mut_array().unwrap();
     let mut cpu = first;
     for steps in 0..budget {
-        match step(program, regs, words, ram, cpu, view) {
-            Ok(next) => cpu = next,
-            Err(halt) => {
-                return Ended {
-                    cpu,
-                    halt: Some(halt),
-                    steps,
-                };
-            }
+        if let Err(halt) = step(program, regs, words, ram, &mut cpu, view) {
+            return Ended {
+                cpu,
+                halt: Some(halt),
+                steps,
+            };
         }
     }
     Ended {

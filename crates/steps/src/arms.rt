@@ -1,6 +1,7 @@
 // The step: one arm for each opcode, and each arm one call. The instructions up to WRITE and those from SCRSET on are matched apart: the
 // first touch no screen and no tree.
 ghost use Rattle.std.specs.Prelude.{◌≤◌, ◌<◌, length};
+ghost use Rattle.instructions.specs.Answers.{halt_of};
 ghost use Rattle.instructions.specs.Opcodes.{WRITE};
 ghost use Rattle.instructions.specs.Words.{opcode};
 ghost use Rattle.pieces.specs.Steps.{Shows, Steps, ViewSteps, plain, plain_after, viewing, viewing_after};
@@ -28,13 +29,13 @@ pub fn plain_step(
     regs: &mut Registers,
     memory: &mut [u32; 1024],
     ram: &mut [u8],
-    cpu: Cpu,
-) -> Result<Cpu, Halt>
+    cpu: &mut Cpu,
+) -> Result<(), Halt>
     requires low { opcode w ≤ WRITE }
-    requires inside { cpu.place < 1024 }
-    ensures { Steps w (plain regs.old.words cpu memory.old ram.old) (plain_after regs.new.words cpu result memory.new ram.new) }
+    requires inside { cpu.old.place < 1024 }
+    ensures { Steps w (plain regs.old.words cpu.old memory.old ram.old) (plain_after regs.new.words cpu.new (halt_of result) memory.new ram.new) }
 {
-    let next = match opcode(w) {
+    match opcode(w) {
         LD => do_ld(w, memory, regs, cpu)?,
         ST => do_st(w, memory, regs, cpu)?,
         LI => do_li(w, regs, cpu),
@@ -71,22 +72,22 @@ pub fn plain_step(
         READ => do_read(w, regs, memory, ram, cpu)?,
         WRITE => do_write(w, regs, memory, ram, cpu)?,
         _ => return Err(Halt::NoInstruction),
-    };
-    Ok(next)
+    }
+    Ok(())
 }
 
 // An instruction from SCRSET on, or an opcode that has none.
 pub fn view_step(
     w: u32,
     regs: &mut Registers,
-    cpu: Cpu,
+    cpu: &mut Cpu,
     view: &mut View,
     ram: &mut [u8],
-) -> Result<Cpu, Halt>
+) -> Result<(), Halt>
     requires high { WRITE < opcode w }
-    requires inside { cpu.place < 1024 }
+    requires inside { cpu.old.place < 1024 }
     requires shows { Shows (length ram.old) view.old }
-    ensures { ViewSteps w (viewing regs.old.words cpu view.old ram.old) (viewing_after regs.new.words cpu result view.new ram.new) }
+    ensures { ViewSteps w (viewing regs.old.words cpu.old view.old ram.old) (viewing_after regs.new.words cpu.new (halt_of result) view.new ram.new) }
 {
     match opcode(w) {
         SCRSET => do_scrset(w, regs, cpu, view, ram),

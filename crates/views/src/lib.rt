@@ -58,20 +58,21 @@ fn screen_set(regs: &Registers, w: u32) -> Screen
 pub fn do_scrset(
     w: u32,
     regs: &Registers,
-    cpu: Cpu,
+    cpu: &mut Cpu,
     view: &mut View,
     ram: &[u8],
-) -> Result<Cpu, Halt>
+) -> Result<(), Halt>
     requires opcode { opcode w ≡ SCRSET }
-    requires inside { cpu.place < 1024 }
-    ensures { ViewSteps w (viewing regs.now.words cpu view.old ram.now) (viewing_after regs.now.words cpu result view.new ram.now) }
+    requires inside { cpu.old.place < 1024 }
+    ensures { ViewSteps w (viewing regs.now.words cpu.old view.old ram.now) (viewing_after regs.now.words cpu.new (halt_of result) view.new ram.now) }
 {
     let screen = screen_set(regs, w);
     if !sound(ram.len(), screen) {
         return Err(Halt::NoScreen);
     }
     view.show(screen);
-    Ok(cpu.onward())
+    cpu.onward();
+    Ok(())
 }
 
 fn low_half(v: u32) -> u16
@@ -81,24 +82,31 @@ fn low_half(v: u32) -> u16
 }
 
 // The state's screen is sound, so the clear is not refused.
-pub fn do_cls(w: u32, regs: &Registers, cpu: Cpu, view: &View, ram: &mut [u8]) -> Result<Cpu, Halt>
+pub fn do_cls(
+    w: u32,
+    regs: &Registers,
+    cpu: &mut Cpu,
+    view: &View,
+    ram: &mut [u8],
+) -> Result<(), Halt>
     requires opcode { opcode w ≡ CLS }
-    requires inside { cpu.place < 1024 }
+    requires inside { cpu.old.place < 1024 }
     requires shows { Shows (length ram.old) view.now }
-    ensures { ViewSteps w (viewing regs.now.words cpu view.now ram.old) (viewing_after regs.now.words cpu result view.now ram.new) }
+    ensures { ViewSteps w (viewing regs.now.words cpu.old view.now ram.old) (viewing_after regs.now.words cpu.new (halt_of result) view.now ram.new) }
 {
     want_screen(view)?;
     let colour = low_half(regs.in_r1(w));
     let depth = low_half(regs.in_r2(w));
     clear(ram, view.screen, colour, depth).unwrap();
-    Ok(cpu.onward())
+    cpu.onward();
+    Ok(())
 }
 
 // The place is judged only where there is a screen.
-pub fn do_treeset(w: u32, regs: &Registers, cpu: Cpu, view: &mut View) -> Result<Cpu, Halt>
+pub fn do_treeset(w: u32, regs: &Registers, cpu: &mut Cpu, view: &mut View) -> Result<(), Halt>
     requires opcode { opcode w ≡ TREESET }
-    requires inside { cpu.place < 1024 }
-    ensures { TreeSteps w (viewing regs.now.words cpu view.old) (viewing_after regs.now.words cpu result view.new) }
+    requires inside { cpu.old.place < 1024 }
+    ensures { TreeSteps w (viewing regs.now.words cpu.old view.old) (viewing_after regs.now.words cpu.new (halt_of result) view.new) }
 {
     want_screen(view)?;
     let column = regs.in_r1(w);
@@ -107,7 +115,8 @@ pub fn do_treeset(w: u32, regs: &Registers, cpu: Cpu, view: &mut View) -> Result
         return Err(Halt::NoTree);
     }
     view.plant(tree_set(column, row, regs.in_r3(w)));
-    Ok(cpu.onward())
+    cpu.onward();
+    Ok(())
 }
 
 // r1 after TREEIN and TREEVAL.
@@ -118,15 +127,16 @@ fn put_past(w: u32, regs: &mut Registers)
     regs.put(r1(w), past);
 }
 
-pub fn do_treein(w: u32, regs: &mut Registers, cpu: Cpu, view: &mut View) -> Result<Cpu, Halt>
+pub fn do_treein(w: u32, regs: &mut Registers, cpu: &mut Cpu, view: &mut View) -> Result<(), Halt>
     requires opcode { opcode w ≡ TREEIN }
-    requires inside { cpu.place < 1024 }
-    ensures { TreeSteps w (viewing regs.old.words cpu view.old) (viewing_after regs.new.words cpu result view.new) }
+    requires inside { cpu.old.place < 1024 }
+    ensures { TreeSteps w (viewing regs.old.words cpu.old view.old) (viewing_after regs.new.words cpu.new (halt_of result) view.new) }
 {
     want_tree(view)?;
     tree_in(&mut view.tree, regs.in_r1(w), regs.in_r2(w));
     put_past(w, regs);
-    Ok(cpu.onward())
+    cpu.onward();
+    Ok(())
 }
 
 // A depth at 0, else red, green or blue.
@@ -150,14 +160,14 @@ fn tree_val(kind: u32, s: Screen, ram: &[u8], a: u32, b: u32, tree: &mut Tree) -
 pub fn do_treeval(
     w: u32,
     regs: &mut Registers,
-    cpu: Cpu,
+    cpu: &mut Cpu,
     view: &mut View,
     ram: &[u8],
-) -> Result<Cpu, Halt>
+) -> Result<(), Halt>
     requires opcode { opcode w ≡ TREEVAL }
-    requires inside { cpu.place < 1024 }
+    requires inside { cpu.old.place < 1024 }
     requires shows { Shows (length ram.now) view.old }
-    ensures { ViewSteps w (viewing regs.old.words cpu view.old ram.now) (viewing_after regs.new.words cpu result view.new ram.now) }
+    ensures { ViewSteps w (viewing regs.old.words cpu.old view.old ram.now) (viewing_after regs.new.words cpu.new (halt_of result) view.new ram.now) }
 {
     want_tree(view)?;
     tree_val(
@@ -169,22 +179,24 @@ pub fn do_treeval(
         &mut view.tree,
     )?;
     put_past(w, regs);
-    Ok(cpu.onward())
+    cpu.onward();
+    Ok(())
 }
 
 pub fn do_treeput(
     w: u32,
     regs: &Registers,
-    cpu: Cpu,
+    cpu: &mut Cpu,
     view: &View,
     ram: &mut [u8],
-) -> Result<Cpu, Halt>
+) -> Result<(), Halt>
     requires opcode { opcode w ≡ TREEPUT }
-    requires inside { cpu.place < 1024 }
+    requires inside { cpu.old.place < 1024 }
     requires shows { Shows (length ram.old) view.now }
-    ensures { ViewSteps w (viewing regs.now.words cpu view.now ram.old) (viewing_after regs.now.words cpu result view.now ram.new) }
+    ensures { ViewSteps w (viewing regs.now.words cpu.old view.now ram.old) (viewing_after regs.now.words cpu.new (halt_of result) view.now ram.new) }
 {
     want_tree(view)?;
     tree_put(ram, view.screen, &view.tree);
-    Ok(cpu.onward())
+    cpu.onward();
+    Ok(())
 }

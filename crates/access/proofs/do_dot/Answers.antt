@@ -22,8 +22,8 @@ pub returns-then-a-b : goal.returns-then-a-b
 returns-then-a-b c =
     λ ram view.
     let a = c.args in
-    stops a.regs.now.words a.cpu view a.memory.now ram a.w OutsideData
-    (case-DOT (length ram) (joined a.regs.now.words a.cpu 0 view) a.w c.requires.opcode
+    stops a.regs.now.words a.cpu.now view a.memory.now ram a.w OutsideData
+    (case-DOT (length ram) (joined a.regs.now.words a.cpu.now 0 view) a.w c.requires.opcode
     ∙ ap (λ (t : Bool). choose t 13 0) (sym (ap₂ above c.in_r2-a.ensures c.in_r3-b.ensures) ∙ c.if-a-b.true))
 
 pub returns : goal.returns
@@ -31,8 +31,8 @@ returns c =
     λ ram view.
     let a = c.args in
     let e = c.requires.opcode in
-    puts_result a.regs.now.words a.cpu view a.memory.now ram a.w _ _ _
-    (case-DOT (length ram) (joined a.regs.now.words a.cpu 0 view) a.w e
+    puts_result a.regs.now.words a.cpu.now view a.memory.now ram a.w _ _ _
+    (case-DOT (length ram) (joined a.regs.now.words a.cpu.now 0 view) a.w e
     ∙ ap (λ (t : Bool). choose t 13 0) (sym (ap₂ above c.in_r2-a.ensures c.in_r3-b.ensures) ∙ c.if-a-b.false))
     (ap sets_flags e)
     (ap is_jump e)

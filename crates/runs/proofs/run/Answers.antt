@@ -10,7 +10,7 @@ returns-in-Err c =
 
 pub loop-steps-preserved : goal.loop-steps-preserved
 loop-steps-preserved c =
-    kept_pass c.loop-steps.invariant c.loop-steps-test.true _ c.in-Ok.ensures refl
+    kept_pass c.loop-steps.invariant c.loop-steps-test.true _ c.in_default.ensures refl
 
 pub returns : goal.returns
 returns c = kept_end c.loop-steps.invariant c.loop-steps-test.false

@@ -16,19 +16,19 @@ pub returns-in_err-w : goal.returns-in_err-w
 returns-in_err-w c =
     let a = c.args in
     let past = rw c.in_err-w.ensures.ok_part at c.get.ensures.lookup in
-    stops_past a.program.now a.regs.now.words a.cpu a.view.now a.memory.now a.ram.now _ _ c.from_residual.ensures.1
+    stops_past a.program.now a.regs.now.words a.cpu.now a.view.now a.memory.now a.ram.now _ _ c.from_residual.ensures.1
     (rw c.in_err-w.ensures.ok_part at (ap halt_of c.in_err-w.ensures.value)) past.3
 
 -- where the place is, and what the program has there
 found : (c : After-opcode)
-    → (c.args.cpu.place < length c.args.program.now) × (c.in_ok-w.field-0.now ≡ get_or c.args.program.now c.args.cpu.place 0)
+    → (c.args.cpu.now.place < length c.args.program.now) × (c.in_ok-w.field-0.now ≡ get_or c.args.program.now c.args.cpu.now.place 0)
 found c =
     let h = rw c.in_ok-w.ensures.ok_part at c.get.ensures.lookup in
     (h.3.0, h.3.1 0)
 
 is_step : (c : After-opcode) →
     let a = c.args in
-    let m = machine a.regs.now.words a.cpu 0 a.view.now a.memory.now a.ram.now in
+    let m = machine a.regs.now.words a.cpu.now 0 a.view.now a.memory.now a.ram.now in
     stepped m c.in_ok-w.field-0.now ≡ step current a.program.now m
 is_step c = step_at _ _ refl _ (found c).1 (found c).0
 

@@ -21,8 +21,8 @@ pub returns-then-not-sound : goal.returns-then-not-sound
 returns-then-not-sound c =
     λ memory.
     let a = c.args in
-    stops a.regs.now.words a.cpu a.view.now memory a.ram.now a.w NoScreen
-    (case-SCRSET (length a.ram.now) (joined a.regs.now.words a.cpu 0 a.view.now) a.w c.requires.opcode
+    stops a.regs.now.words a.cpu.now a.view.now memory a.ram.now a.w NoScreen
+    (case-SCRSET (length a.ram.now) (joined a.regs.now.words a.cpu.now 0 a.view.now) a.w c.requires.opcode
     ∙ ap (λ (t : Bool). choose (not t) 17 0) (is_sound (goal.at.returns-then-not-sound c).After-sound)
     ∙ rw c.if-not-sound.true)
 
@@ -30,8 +30,8 @@ pub returns : goal.returns
 returns c =
     λ memory.
     let a = c.args in
-    sets_screen a.regs.now.words a.cpu a.view.now memory a.ram.now a.w
-    (case-SCRSET (length a.ram.now) (joined a.regs.now.words a.cpu 0 a.view.now) a.w c.requires.opcode
+    sets_screen a.regs.now.words a.cpu.now a.view.now memory a.ram.now a.w
+    (case-SCRSET (length a.ram.now) (joined a.regs.now.words a.cpu.now 0 a.view.now) a.w c.requires.opcode
     ∙ ap (λ (t : Bool). choose (not t) 17 0) (is_sound (goal.at.returns c).After-sound)
     ∙ rw c.if-not-sound.false)
     _ c.onward.ensures _ c.requires.opcode

@@ -12,5 +12,5 @@ pub returns-in_default : goal.returns-in_default
 returns-in_default c =
     λ memory.
     let a = c.args in
-    stops a.regs.now.words a.cpu a.view.now memory a.ram.now a.w NoInstruction
-    (case-above (length a.ram.now) (joined a.regs.now.words a.cpu 0 a.view.now) a.w (omega (arith, c.opcode.ensures, c.requires.high)))
+    stops a.regs.now.words a.cpu.now a.view.now memory a.ram.now a.w NoInstruction
+    (case-above (length a.ram.now) (joined a.regs.now.words a.cpu.now 0 a.view.now) a.w (omega (arith, c.opcode.ensures, c.requires.high)))
