@@ -139,7 +139,8 @@ pub fn do_treein(w: u32, regs: &mut Registers, cpu: &mut Cpu, view: &mut View) -
     Ok(())
 }
 
-// A depth at 0, else red, green or blue.
+// A depth at 0, else red, green or blue. Called, and not compiled into the run, where its leaves take registers from every step.
+#[inline(never)]
 #[tactic(auto, unfolding(instructions::specs::Tree::tree_val))]
 fn tree_val(kind: u32, s: Screen, ram: &[u8], a: u32, b: u32, tree: &mut Tree) -> Result<(), Halt>
     requires { Placed (length ram.now) s tree.old }
