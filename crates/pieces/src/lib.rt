@@ -1,4 +1,4 @@
-// The machine's state in the pieces in which a run holds it: the registers lent, a small struct that each step passes on, and what only the
+// The machine's state in the pieces in which a run holds it: the registers lent, a small struct that each step changes, and what only the
 // instructions from SCRSET on touch.
 #![tactic(auto)]
 

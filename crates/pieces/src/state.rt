@@ -1,4 +1,4 @@
-// The pieces of a state that is not halted: a step up to WRITE passes on the small one, and never touches the screen and the tree.
+// The pieces of a state that is not halted: a step up to WRITE changes the small one, and never the screen and the tree.
 ghost use Rattle.std.specs.Prelude.{◌+◌, ◌<◌, ◌≡◌};
 ghost use Rattle.pieces.specs.Pieces.{at, cpu_of, joined, screened, treed, view_of};
 
