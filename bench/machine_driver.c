@@ -286,7 +286,7 @@ void prepare(const char *name)
     } else if (!strcmp(name, "moves")) {
         moves();
     } else if (!strcmp(name, "run-1024")) {
-        /* Long enough for a run to copy the table of reciprocals, and so short that the copy shows. */
+        /* Long enough that a step counts, and so short that what a call costs beside its steps shows. */
         arithmetic();
         budget = 1024;
         calls = 1000;
