@@ -2,15 +2,21 @@
 -- and holds of every state that a call reads (`lent-marks`) and so of every state that it answers, since a run keeps them.
 use mathlib.Core.Path.{◌≡◌, refl, ◌∙◌, ap}
 use mathlib.Core.Bool.{Bool, true, false}
-use mathlib.Core.List.{List}
+use mathlib.Core.List.{List, [], ◌∷◌}
 use lib.ListN.{length, get_or}
 use Rattle.instructions.specs.declared.Tree.{Tree}
 use Rattle.instructions.specs.declared.State.{State}
+use Rattle.instructions.specs.Tree.{each}
 use Rattle.instructions.proofs.Leaves.{length-each, leaf_at_lem, leaves_same}
 use Rattle.instructions.proofs.Lengths.{SixteenMarks}
 use Rattle.border.specs.declared.LentState.{LentState}
 use Rattle.border.specs.Lent.{is_yes, number_of, marks_of, bytes_of, tree_of, lent_tree, state_of, lent_state}
-use Rattle.border.proofs.Made.{each_own}
+
+-- a list is its own elements in order
+each_own : {A : Type 0} (l : List A) (d : A) → each (λ k. get_or l k d) (length l) ≡ l
+unfolding each
+each_own [] d = refl
+each_own (x ∷ l) d = ap (λ t. x ∷ t) (each_own l d)
 
 -- the state that a call reads
 pub lent-marks : (s : LentState) → SixteenMarks (state_of s).tree

@@ -1,3 +1,2 @@
--- Arrays leaf by leaf, and what C has of a state loses nothing of it.
-pub mod Made
+-- What C has of a state loses nothing of it.
 pub mod Back

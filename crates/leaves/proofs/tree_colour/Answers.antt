@@ -2,7 +2,7 @@
 use Rattle.std.proofs.Common.{rules}
 use Rattle.instructions.specs.Tree.{leaf_colour, leaf_value, replaced, tree_colour}
 use Rattle.leaves.specs.Channels.{channel_number}
-use Rattle.leaves.proofs.Made.{made_leaves}
+use Rattle.instructions.proofs.Made.{made_leaves}
 use Rattle.leaves.proofs.tree_colour.Goals as goal
 
 pub returns : goal.returns

@@ -3,7 +3,7 @@ use Rattle.std.proofs.Common.{rules, ℕ, false, ◌&&◌, ◌||◌, not}
 use Rattle.rules.specs.Triangles.{positive, negative}
 use Rattle.instructions.specs.Words.{signed}
 use Rattle.instructions.specs.Tree.{mark_i, mark_o, leaf_value, marked, tree_in}
-use Rattle.leaves.proofs.Made.{made_leaves}
+use Rattle.instructions.proofs.Made.{made_leaves}
 use Rattle.leaves.proofs.tree_in.Goals as goal
 
 pub returns : goal.returns

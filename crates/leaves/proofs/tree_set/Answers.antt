@@ -2,7 +2,7 @@
 use Rattle.std.proofs.Common.{rules, ◌≡◌, ◌∙◌, ap, ℕ, Bool, true, false, not, refl, get_or, replicate}
 use Rattle.instructions.specs.Tree.{each, leaves, mask_bit, tree_set}
 use Rattle.instructions.proofs.Leaves.{leaf_at_lem, leaves_same}
-use Rattle.leaves.proofs.Made.{made_leaves}
+use Rattle.instructions.proofs.Made.{made_leaves}
 use Rattle.leaves.proofs.tree_set.Goals as goal
 
 not_not : (b : Bool) → not (not b) ≡ b

@@ -1,7 +1,7 @@
 -- `load_halves` gives the sixteen half-words, leaf by leaf.
 use Rattle.std.proofs.Common.{rules, ◌+◌, ◌*◌}
 use Rattle.ram.specs.Ram.{load_half}
-use Rattle.leaves.proofs.Made.{made_leaves}
+use Rattle.instructions.proofs.Made.{made_leaves}
 use Rattle.tree.proofs.load_halves.Goals as goal
 
 pub returns : goal.returns

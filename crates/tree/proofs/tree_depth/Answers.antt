@@ -5,7 +5,7 @@ use Rattle.ram.specs.Ram.{load_half}
 use Rattle.rules.specs.Triangles.{top_half}
 use Rattle.instructions.specs.Tree.{leaves, mark_i, mark_o, marked, deepened, leaf_value, too_deep, tree_depth}
 use Rattle.instructions.proofs.Leaves.{leaf_at_lem, leaves_same}
-use Rattle.leaves.proofs.Made.{made_leaves}
+use Rattle.instructions.proofs.Made.{made_leaves}
 use Rattle.tree.proofs.Standing.{depth_leaf_fits, depth-from}
 use Rattle.tree.proofs.tree_depth.Goals as goal
 
