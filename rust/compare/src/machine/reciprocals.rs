@@ -1,7 +1,7 @@
 //! RECP in long runs and in short ones. 02, M-102: "For operands 1 to 512 use a
-//! stored table of 512 reciprocals. ... Nothing that RECP promises changes." The
-//! engine looks reciprocals up in long runs alone, so a single step never meets
-//! the table.
+//! stored table of 512 reciprocals. ... Nothing that RECP promises changes." An
+//! engine that copied its table would do so in long runs alone, as ours once
+//! did, so runs of both kinds are tried.
 
 use super::case::{with_regs, Case, EXTREMES, FRESH};
 use super::groups::{gives, in_parts, one_run};
@@ -13,7 +13,7 @@ use kit::words::{idle, rri, rrr, to, Program};
 use merikohin::State;
 use second::machine::*;
 
-/// Steps allowed from which on the engine looks reciprocals up.
+/// Steps allowed from which on a copied table would pay.
 pub const LONG_RUN: u64 = 1_024;
 
 /// Far above it, and on both sides of it.
