@@ -11,18 +11,18 @@ ghost use Rattle.pieces.specs.Steps.{DataSteps, Steps, plain, plain_after};
 use alu::dot::dot;
 use instructions::Halt;
 use moves::{move_check, read_words, write_words};
-use pieces::registers::Registers;
+use pieces::registers::{Registers, address_in, in_r1, in_r2, in_r3};
 use pieces::state::Cpu;
 
 // The last word of the data memory.
 const LAST: u32 = 1023;
 
 // Where LD and ST read and write.
-fn data_address(w: u32, regs: &Registers) -> Result<usize, Halt>
-    ensures halt { halt_of result ≡ choose (ltb 1023 (address regs.now.words w)) 13 0 }
-    ensures place { IfOk result (λ a. (a ≡ address regs.now.words w) × (a < 1024)) }
+fn data_address(w: u32, regs: &[u32; 32]) -> Result<usize, Halt>
+    ensures halt { halt_of result ≡ choose (ltb 1023 (address regs.now w)) 13 0 }
+    ensures place { IfOk result (λ a. (a ≡ address regs.now w) × (a < 1024)) }
 {
-    let a = regs.address(w);
+    let a = address_in(regs, w);
     if LAST < a {
         return Err(Halt::OutsideData);
     }
@@ -34,18 +34,18 @@ pub fn do_ld(w: u32, memory: &[u32; 1024], regs: &mut Registers, cpu: &mut Cpu) 
     requires inside { cpu.old.place < 1024 }
     ensures { DataSteps w (plain regs.old.words cpu.old memory.now) (plain_after regs.new.words cpu.new (halt_of result) memory.now) }
 {
-    let a = data_address(w, regs)?;
+    let a = data_address(w, &regs.words)?;
     regs.put_result(w, cpu, memory[a]);
     Ok(())
 }
 
-pub fn do_st(w: u32, memory: &mut [u32; 1024], regs: &Registers, cpu: &mut Cpu) -> Result<(), Halt>
+pub fn do_st(w: u32, memory: &mut [u32; 1024], regs: &[u32; 32], cpu: &mut Cpu) -> Result<(), Halt>
     requires opcode { opcode w ≡ ST }
     requires inside { cpu.old.place < 1024 }
-    ensures { DataSteps w (plain regs.now.words cpu.old memory.old) (plain_after regs.now.words cpu.new (halt_of result) memory.new) }
+    ensures { DataSteps w (plain regs.now cpu.old memory.old) (plain_after regs.now cpu.new (halt_of result) memory.new) }
 {
     let a = data_address(w, regs)?;
-    memory[a] = regs.in_r1(w);
+    memory[a] = in_r1(regs, w);
     cpu.onward();
     Ok(())
 }
@@ -55,8 +55,8 @@ pub fn do_dot(w: u32, memory: &[u32; 1024], regs: &mut Registers, cpu: &mut Cpu)
     requires inside { cpu.old.place < 1024 }
     ensures { DataSteps w (plain regs.old.words cpu.old memory.now) (plain_after regs.new.words cpu.new (halt_of result) memory.now) }
 {
-    let a = regs.in_r2(w);
-    let b = regs.in_r3(w);
+    let a = in_r2(&regs.words, w);
+    let b = in_r3(&regs.words, w);
     if (1020 < a) | (1020 < b) {
         return Err(Halt::OutsideData);
     }
@@ -67,17 +67,17 @@ pub fn do_dot(w: u32, memory: &[u32; 1024], regs: &mut Registers, cpu: &mut Cpu)
 
 pub fn do_read(
     w: u32,
-    regs: &Registers,
+    regs: &[u32; 32],
     memory: &mut [u32; 1024],
     ram: &[u8],
     cpu: &mut Cpu,
 ) -> Result<(), Halt>
     requires opcode { opcode w ≡ READ }
     requires inside { cpu.old.place < 1024 }
-    ensures { Steps w (plain regs.now.words cpu.old memory.old ram.now) (plain_after regs.now.words cpu.new (halt_of result) memory.new ram.now) }
+    ensures { Steps w (plain regs.now cpu.old memory.old ram.now) (plain_after regs.now cpu.new (halt_of result) memory.new ram.now) }
 {
-    let word = regs.in_r1(w);
-    let byte = regs.in_r2(w);
+    let word = in_r1(regs, w);
+    let byte = in_r2(regs, w);
     move_check(ram.len(), word, byte)?;
     read_words(memory, ram, word as usize, byte as usize);
     cpu.onward();
@@ -86,17 +86,17 @@ pub fn do_read(
 
 pub fn do_write(
     w: u32,
-    regs: &Registers,
+    regs: &[u32; 32],
     memory: &[u32; 1024],
     ram: &mut [u8],
     cpu: &mut Cpu,
 ) -> Result<(), Halt>
     requires opcode { opcode w ≡ WRITE }
     requires inside { cpu.old.place < 1024 }
-    ensures { Steps w (plain regs.now.words cpu.old memory.now ram.old) (plain_after regs.now.words cpu.new (halt_of result) memory.now ram.new) }
+    ensures { Steps w (plain regs.now cpu.old memory.now ram.old) (plain_after regs.now cpu.new (halt_of result) memory.now ram.new) }
 {
-    let word = regs.in_r1(w);
-    let byte = regs.in_r2(w);
+    let word = in_r1(regs, w);
+    let byte = in_r2(regs, w);
     move_check(ram.len(), word, byte)?;
     write_words(ram, memory, word as usize, byte as usize);
     cpu.onward();

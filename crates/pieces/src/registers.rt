@@ -7,6 +7,31 @@ use crate::state::Cpu;
 use alu::arithmetic::{negative_flag, zero_flag};
 use alu::fields::{address, r1, r2, r3};
 
+pub fn in_r1(regs: &[u32; 32], w: u32) -> u32
+    ensures { result ≡ in_r1 regs.now w }
+{
+    regs[r1(w)]
+}
+
+pub fn in_r2(regs: &[u32; 32], w: u32) -> u32
+    ensures { result ≡ in_r2 regs.now w }
+{
+    regs[r2(w)]
+}
+
+pub fn in_r3(regs: &[u32; 32], w: u32) -> u32
+    ensures { result ≡ in_r3 regs.now w }
+{
+    regs[r3(w)]
+}
+
+#[tactic(auto, unfolding(instructions::specs::Words::address))]
+pub fn address_in(regs: &[u32; 32], w: u32) -> u32
+    ensures { result ≡ address regs.now w }
+{
+    address(in_r2(regs, w), w)
+}
+
 // "R0 is always 0"
 #[derive(Drop)]
 pub struct Registers {
@@ -15,31 +40,6 @@ pub struct Registers {
 }
 
 impl Registers {
-    pub fn in_r1(&self, w: u32) -> u32
-        ensures { result ≡ in_r1 self.now.words w }
-    {
-        self.words[r1(w)]
-    }
-
-    pub fn in_r2(&self, w: u32) -> u32
-        ensures { result ≡ in_r2 self.now.words w }
-    {
-        self.words[r2(w)]
-    }
-
-    pub fn in_r3(&self, w: u32) -> u32
-        ensures { result ≡ in_r3 self.now.words w }
-    {
-        self.words[r3(w)]
-    }
-
-    #[tactic(auto, unfolding(instructions::specs::Words::address))]
-    pub fn address(&self, w: u32) -> u32
-        ensures { result ≡ address self.now.words w }
-    {
-        address(self.in_r2(w), w)
-    }
-
     // R0 is stored to like any other register and set to 0 again: no branch.
     #[tactic(auto, using(crate::proofs::Zeroed::put_zeroed))]
     pub fn put(&mut self, i: usize, v: u32)

@@ -10,7 +10,7 @@ ghost use Rattle.pieces.specs.Steps.{RegisterSteps};
 use alu::arithmetic::{difference, rounded_product, shifted_left, shifted_right, shifted_signed};
 use alu::fields::{imm, immediate};
 use alu::reciprocals::recp;
-use pieces::registers::Registers;
+use pieces::registers::{Registers, address_in, in_r2, in_r3};
 use pieces::state::Cpu;
 use words::{product32, sum32};
 
@@ -23,7 +23,7 @@ fn operate<F: FnOnce(u32, u32) -> u32>(w: u32, regs: &mut Registers, cpu: &mut C
     requires defined { (v : _) → F.post operation (in_r2 regs.old.words w) (in_r3 regs.old.words w) v → (memory : List ℕ) → v ≡ result memory regs.old.words w }
     ensures { RegisterSteps w regs.old.words cpu.old regs.new.words cpu.new }
 {
-    let v = operation(regs.in_r2(w), regs.in_r3(w));
+    let v = operation(in_r2(&regs.words, w), in_r3(&regs.words, w));
     regs.put_result(w, cpu, v);
 }
 
@@ -32,7 +32,7 @@ pub fn do_li(w: u32, regs: &mut Registers, cpu: &mut Cpu)
     requires inside { cpu.old.place < 1024 }
     ensures { RegisterSteps w regs.old.words cpu.old regs.new.words cpu.new }
 {
-    let to = regs.address(w);
+    let to = address_in(&regs.words, w);
     operate(w, regs, cpu, |_, _| immediate(to));
 }
 

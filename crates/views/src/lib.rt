@@ -16,7 +16,7 @@ ghost use Rattle.pieces.specs.Steps.{Shows, TreeSteps, ViewSteps, viewing, viewi
 use alu::fields::{imm, r1};
 use instructions::{Halt, Tree};
 use leaves::{Channel, past_leaves, refuses_place, tree_colour, tree_in, tree_set};
-use pieces::registers::Registers;
+use pieces::registers::{Registers, in_r1, in_r2, in_r3};
 use pieces::state::{Cpu, View};
 use rules::Screen;
 use screen::clear::clear;
@@ -45,26 +45,26 @@ fn want_tree(view: &View) -> Result<(), Halt>
     Err(Halt::NoTree)
 }
 
-fn screen_set(regs: &Registers, w: u32) -> Screen
-    ensures { result ≡ screen_set regs.now.words w }
+fn screen_set(regs: &[u32; 32], w: u32) -> Screen
+    ensures { result ≡ screen_set regs.now w }
 {
     Screen {
-        colour: regs.in_r1(w),
-        depth: regs.in_r2(w),
+        colour: in_r1(regs, w),
+        depth: in_r2(regs, w),
         size: imm(w),
     }
 }
 
 pub fn do_scrset(
     w: u32,
-    regs: &Registers,
+    regs: &[u32; 32],
     cpu: &mut Cpu,
     view: &mut View,
     ram: &[u8],
 ) -> Result<(), Halt>
     requires opcode { opcode w ≡ SCRSET }
     requires inside { cpu.old.place < 1024 }
-    ensures { ViewSteps w (viewing regs.now.words cpu.old view.old ram.now) (viewing_after regs.now.words cpu.new (halt_of result) view.new ram.now) }
+    ensures { ViewSteps w (viewing regs.now cpu.old view.old ram.now) (viewing_after regs.now cpu.new (halt_of result) view.new ram.now) }
 {
     let screen = screen_set(regs, w);
     if !sound(ram.len(), screen) {
@@ -84,7 +84,7 @@ fn low_half(v: u32) -> u16
 // The state's screen is sound, so the clear is not refused.
 pub fn do_cls(
     w: u32,
-    regs: &Registers,
+    regs: &[u32; 32],
     cpu: &mut Cpu,
     view: &View,
     ram: &mut [u8],
@@ -92,29 +92,29 @@ pub fn do_cls(
     requires opcode { opcode w ≡ CLS }
     requires inside { cpu.old.place < 1024 }
     requires shows { Shows (length ram.old) view.now }
-    ensures { ViewSteps w (viewing regs.now.words cpu.old view.now ram.old) (viewing_after regs.now.words cpu.new (halt_of result) view.now ram.new) }
+    ensures { ViewSteps w (viewing regs.now cpu.old view.now ram.old) (viewing_after regs.now cpu.new (halt_of result) view.now ram.new) }
 {
     want_screen(view)?;
-    let colour = low_half(regs.in_r1(w));
-    let depth = low_half(regs.in_r2(w));
+    let colour = low_half(in_r1(regs, w));
+    let depth = low_half(in_r2(regs, w));
     clear(ram, view.screen, colour, depth).unwrap();
     cpu.onward();
     Ok(())
 }
 
 // The place is judged only where there is a screen.
-pub fn do_treeset(w: u32, regs: &Registers, cpu: &mut Cpu, view: &mut View) -> Result<(), Halt>
+pub fn do_treeset(w: u32, regs: &[u32; 32], cpu: &mut Cpu, view: &mut View) -> Result<(), Halt>
     requires opcode { opcode w ≡ TREESET }
     requires inside { cpu.old.place < 1024 }
-    ensures { TreeSteps w (viewing regs.now.words cpu.old view.old) (viewing_after regs.now.words cpu.new (halt_of result) view.new) }
+    ensures { TreeSteps w (viewing regs.now cpu.old view.old) (viewing_after regs.now cpu.new (halt_of result) view.new) }
 {
     want_screen(view)?;
-    let column = regs.in_r1(w);
-    let row = regs.in_r2(w);
+    let column = in_r1(regs, w);
+    let row = in_r2(regs, w);
     if refuses_place(view.screen, column, row) {
         return Err(Halt::NoTree);
     }
-    view.plant(tree_set(column, row, regs.in_r3(w)));
+    view.plant(tree_set(column, row, in_r3(regs, w)));
     cpu.onward();
     Ok(())
 }
@@ -123,7 +123,7 @@ pub fn do_treeset(w: u32, regs: &Registers, cpu: &mut Cpu, view: &mut View) -> R
 fn put_past(w: u32, regs: &mut Registers)
     ensures { regs.new.words ≡ with_register regs.old.words (r1 w) (past_leaves (in_r1 regs.old.words w) (in_r2 regs.old.words w)) }
 {
-    let past = past_leaves(regs.in_r1(w), regs.in_r2(w));
+    let past = past_leaves(in_r1(&regs.words, w), in_r2(&regs.words, w));
     regs.put(r1(w), past);
 }
 
@@ -133,7 +133,7 @@ pub fn do_treein(w: u32, regs: &mut Registers, cpu: &mut Cpu, view: &mut View) -
     ensures { TreeSteps w (viewing regs.old.words cpu.old view.old) (viewing_after regs.new.words cpu.new (halt_of result) view.new) }
 {
     want_tree(view)?;
-    tree_in(&mut view.tree, regs.in_r1(w), regs.in_r2(w));
+    tree_in(&mut view.tree, in_r1(&regs.words, w), in_r2(&regs.words, w));
     put_past(w, regs);
     cpu.onward();
     Ok(())
@@ -175,8 +175,8 @@ pub fn do_treeval(
         imm(w),
         view.screen,
         ram,
-        regs.in_r1(w),
-        regs.in_r2(w),
+        in_r1(&regs.words, w),
+        in_r2(&regs.words, w),
         &mut view.tree,
     )?;
     put_past(w, regs);
@@ -186,7 +186,7 @@ pub fn do_treeval(
 
 pub fn do_treeput(
     w: u32,
-    regs: &Registers,
+    regs: &[u32; 32],
     cpu: &mut Cpu,
     view: &View,
     ram: &mut [u8],
@@ -194,7 +194,7 @@ pub fn do_treeput(
     requires opcode { opcode w ≡ TREEPUT }
     requires inside { cpu.old.place < 1024 }
     requires shows { Shows (length ram.old) view.now }
-    ensures { ViewSteps w (viewing regs.now.words cpu.old view.now ram.old) (viewing_after regs.now.words cpu.new (halt_of result) view.now ram.new) }
+    ensures { ViewSteps w (viewing regs.now cpu.old view.now ram.old) (viewing_after regs.now cpu.new (halt_of result) view.now ram.new) }
 {
     want_tree(view)?;
     tree_put(ram, view.screen, &view.tree);

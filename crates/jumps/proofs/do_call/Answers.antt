@@ -7,5 +7,5 @@ use Rattle.jumps.proofs.do_call.Goals as goal
 pub returns : goal.returns
 unfolding goes
 returns c =
-    calls_to c.args.w _ c.args.cpu.now _ _ (c.address-to.ensures ∙ rw c.requires.opcode) c.jump.ensures
+    calls_to c.args.w _ c.args.cpu.now _ _ (c.address_in-to.ensures ∙ rw c.requires.opcode) c.jump.ensures
     _ c.requires.opcode c.put.ensures

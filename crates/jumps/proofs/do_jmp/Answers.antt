@@ -9,5 +9,5 @@ pub returns : goal.returns
 unfolding goes
 returns c =
     let e = c.requires in
-    jumps_to c.args.w _ c.args.cpu.now _ _ (c.address.ensures ∙ rw e) c.jump.ensures
+    jumps_to c.args.w _ c.args.cpu.now _ _ (c.address_in.ensures ∙ rw e) c.jump.ensures
     (omega (arith, e)) (omega (arith, e)) (λ q. omega (arith, e, q))

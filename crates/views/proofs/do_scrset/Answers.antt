@@ -14,15 +14,15 @@ use Rattle.views.proofs.do_scrset.Goals.{After-sound}
 use Rattle.views.proofs.do_scrset.Goals as goal
 
 -- the test is the definition's, of the screen that the registers give
-is_sound : (c : After-sound) → sound (length c.args.ram.now) (screen_set c.args.regs.now.words c.args.w) ≡ c.sound.result
+is_sound : (c : After-sound) → sound (length c.args.ram.now) (screen_set c.args.regs.now c.args.w) ≡ c.sound.result
 is_sound c = sym (c.sound.ensures ∙ ap (sound (length c.args.ram.now)) c.screen_set-screen.ensures)
 
 pub returns-then-not-sound : goal.returns-then-not-sound
 returns-then-not-sound c =
     λ memory.
     let a = c.args in
-    stops a.regs.now.words a.cpu.now a.view.now memory a.ram.now a.w NoScreen
-    (case-SCRSET (length a.ram.now) (joined a.regs.now.words a.cpu.now 0 a.view.now) a.w c.requires.opcode
+    stops a.regs.now a.cpu.now a.view.now memory a.ram.now a.w NoScreen
+    (case-SCRSET (length a.ram.now) (joined a.regs.now a.cpu.now 0 a.view.now) a.w c.requires.opcode
     ∙ ap (λ (t : Bool). choose (not t) 17 0) (is_sound (goal.at.returns-then-not-sound c).After-sound)
     ∙ rw c.if-not-sound.true)
 
@@ -30,8 +30,8 @@ pub returns : goal.returns
 returns c =
     λ memory.
     let a = c.args in
-    sets_screen a.regs.now.words a.cpu.now a.view.now memory a.ram.now a.w
-    (case-SCRSET (length a.ram.now) (joined a.regs.now.words a.cpu.now 0 a.view.now) a.w c.requires.opcode
+    sets_screen a.regs.now a.cpu.now a.view.now memory a.ram.now a.w
+    (case-SCRSET (length a.ram.now) (joined a.regs.now a.cpu.now 0 a.view.now) a.w c.requires.opcode
     ∙ ap (λ (t : Bool). choose (not t) 17 0) (is_sound (goal.at.returns c).After-sound)
     ∙ rw c.if-not-sound.false)
     _ c.onward.ensures _ c.requires.opcode
