@@ -21,7 +21,7 @@ pub struct Left {
     pub state: State,
 }
 
-// A call that no number refuses, for who has judged it. A halted state stays.
+// A call that no number refuses, for who has judged it.
 pub fn run_accepted(
     program: &[u32],
     memory: &mut [u32],
@@ -32,9 +32,6 @@ pub fn run_accepted(
     requires { run_number program.now (together state memory.old ram.old) ≡ 0 }
     ensures { Ends program.now budget (together state memory.old ram.old) result.steps (together result.state memory.new ram.new) }
 {
-    if state.halt != 0 {
-        return Left { steps: 0, state };
-    }
     let mut regs = Registers { words: state.regs };
     let mut view = View::from(&state);
     let end = run(
@@ -43,11 +40,12 @@ pub fn run_accepted(
         memory,
         ram,
         Cpu::from(&state),
+        state.halt,
         &mut view,
         budget,
     );
     let Registers { words } = regs;
-    let state = joined(words, end.cpu, end.halt_number(), &view);
+    let state = joined(words, end.cpu, end.halt, &view);
     Left {
         steps: end.steps,
         state,

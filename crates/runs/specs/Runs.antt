@@ -1,8 +1,6 @@
 -- What a run may count on, and what it leaves.
-use Rattle.std.specs.Prelude.{ℕ, ◌≤◌, ◌≡◌, false, List, length, Option, Some, None}
+use Rattle.std.specs.Prelude.{ℕ, ◌≤◌, ◌≡◌, false, List, length}
 use Rattle.rules.specs.Sizes.{ram_limit}
-use Rattle.instructions.specs.declared.Halt.{Halt}
-use Rattle.instructions.specs.Answers.{number_of_halt}
 use Rattle.instructions.specs.Opcodes.{current}
 use Rattle.instructions.specs.Step.{Machine}
 use Rattle.instructions.specs.Run.{run, steps, ill_formed}
@@ -17,8 +15,3 @@ pub record Ready (program : List ℕ) (m : Machine) : Type 0 where
 pub record Ends (program : List ℕ) (budget : ℕ) (m : Machine) (count : ℕ) (after : Machine) : Type 0 where
   pub counts : count ≡ steps current program budget m
   pub leaves : after ≡ run current program budget m
-
--- the number of the halt that ended a run, 0 where its budget did
-abbrev pub number_of_end : Option Halt → ℕ
-number_of_end None = 0
-number_of_end (Some halt) = number_of_halt halt

@@ -6,7 +6,7 @@ ghost use Rattle.instructions.specs.Answers.{halt_of};
 ghost use Rattle.instructions.specs.Opcodes.{current};
 ghost use Rattle.instructions.specs.Step.{step};
 ghost use Rattle.pieces.specs.Pieces.{machine};
-ghost use Rattle.runs.specs.Runs.{Ends, Ready, number_of_end};
+ghost use Rattle.runs.specs.Runs.{Ends, Ready};
 
 use alu::fields::opcode;
 use instructions::Halt;
@@ -15,24 +15,12 @@ use pieces::state::{Cpu, View};
 use steps::arms::{plain_step, view_step};
 use steps::opcodes::WRITE;
 
-// What a run leaves of the small piece, the halt that ended it, if one did, and the steps carried out.
+// What a run leaves of the small piece, the state's halt number, and the steps carried out.
 #[derive(Clone, Copy)]
 pub struct Ended {
     pub cpu: Cpu,
-    pub halt: Option<Halt>,
+    pub halt: u32,
     pub steps: u64,
-}
-
-impl Ended {
-    // The state's number.
-    pub fn halt_number(&self) -> u32
-        ensures { result ≡ number_of_end self.now.halt }
-    {
-        match self.halt {
-            Some(halt) => u32::from(halt),
-            None => 0,
-        }
-    }
 }
 
 // One step, at the word of its place.
@@ -54,33 +42,41 @@ fn step(
     view_step(w, regs, cpu, view, ram)
 }
 
-// A halting step ends the run, and is not counted.
+// A halted state stays. A halting step ends the run, and is not counted.
 pub fn run(
     program: &[u32],
     regs: &mut Registers,
     memory: &mut [u32],
     ram: &mut [u8],
     first: Cpu,
+    halt: u32,
     view: &mut View,
     budget: u64,
 ) -> Ended
-    requires { Ready program.now (machine regs.old.words first 0 view.old memory.old ram.old) }
-    ensures { Ends program.now budget (machine regs.old.words first 0 view.old memory.old ram.old) result.steps (machine regs.new.words result.cpu (number_of_end result.halt) view.new memory.new ram.new) }
+    requires { Ready program.now (machine regs.old.words first halt view.old memory.old ram.old) }
+    ensures { Ends program.now budget (machine regs.old.words first halt view.old memory.old ram.old) result.steps (machine regs.new.words result.cpu result.halt view.new memory.new ram.new) }
 {
+    if halt != 0 {
+        return Ended {
+            cpu: first,
+            halt,
+            steps: 0,
+        };
+    }
     let words = memory.as_mut_array().unwrap();
     let mut cpu = first;
     for steps in 0..budget {
         if let Err(halt) = step(program, regs, words, ram, &mut cpu, view) {
             return Ended {
                 cpu,
-                halt: Some(halt),
+                halt: u32::from(halt),
                 steps,
             };
         }
     }
     Ended {
         cpu,
-        halt: None,
+        halt: 0,
         steps: budget,
     }
 }

@@ -4,4 +4,4 @@ use Rattle.runs.proofs.Invariant.{Kept}
 use Rattle.runs.proofs.run.Given as goal
 
 abbrev pub invariant-loop-steps : goal.invariant-loop-steps
-invariant-loop-steps l = Kept l.program l.budget (machine l.fn.regs.words l.fn.first 0 l.fn.view l.fn.memory l.fn.ram) l.steps (machine l.regs.words l.cpu 0 l.view l.words l.ram)
+invariant-loop-steps l = Kept l.program l.budget (machine l.fn.regs.words l.fn.first l.fn.halt l.fn.view l.fn.memory l.fn.ram) l.steps (machine l.regs.words l.cpu 0 l.view l.words l.ram)
