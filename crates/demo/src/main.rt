@@ -35,25 +35,6 @@ fn half_square(corner: i32, x2: i32, y2: i32, blue: i32) -> Triangle {
     }
 }
 
-// Why the demonstration can fail.
-#[derive(Debug, Drop)]
-enum Failure {
-    Refused(Refusal),
-    NotWritten(io::Error),
-}
-
-impl From<Refusal> for Failure {
-    fn from(refusal: Refusal) -> Failure {
-        Failure::Refused(refusal)
-    }
-}
-
-impl From<io::Error> for Failure {
-    fn from(error: io::Error) -> Failure {
-        Failure::NotWritten(error)
-    }
-}
-
 // The picture. Blue is bits 16 to 20 of its plane, so shade 1 is 65536 and shade 2 is 131072.
 fn paint(ram: &mut [u8], s: Screen) -> Result<(), Refusal> {
     clear(ram, s, 0, 65535)?;
@@ -80,14 +61,13 @@ fn show(rt: &impl Print, ram: &[u8], s: Screen) -> io::Result<()> {
     Ok(())
 }
 
-fn main(rt: HostRuntime) -> Result<(), Failure> {
+fn main(rt: HostRuntime) -> io::Result<()> {
     let s = Screen {
         colour: 0,
         depth: 128,
         size: 516,
     };
     let mut ram = [0u8; 256];
-    paint(&mut ram, s)?;
-    show(&rt, &ram, s)?;
-    Ok(())
+    paint(&mut ram, s).map_err(|_| io::Error::from(io::ErrorKind::InvalidInput))?;
+    show(&rt, &ram, s)
 }
