@@ -4,7 +4,7 @@
 ghost use Rattle.std.specs.Prelude.{◌<◌, ◌≡◌};
 ghost use Rattle.rules.specs.Triangles.{positive, negative};
 ghost use Rattle.instructions.specs.Words.{signed};
-ghost use Rattle.leaves.specs.Channels.{channel_number};
+ghost use Rattle.leaves.specs.Channels.{channel_number, channel_of};
 ghost use Rattle.instructions.specs.Tree.{refuses_place, mask_bit, tree_set, leaf_value, past_leaves, tree_in, replaced, tree_colour};
 
 use instructions::Tree;
@@ -18,6 +18,19 @@ pub enum Channel {
     Red = 1,
     Green = 2,
     Blue = 3,
+}
+
+// 1 is red, 2 is green, and any other number blue.
+impl From<u32> for Channel {
+    ghost from_gives = { λ kind channel. channel ≡ channel_of kind };
+
+    fn from(kind: u32) -> Channel {
+        match kind {
+            1 => Channel::Red,
+            2 => Channel::Green,
+            _ => Channel::Blue,
+        }
+    }
 }
 
 // TREESET's test of a place.

@@ -141,7 +141,7 @@ pub fn do_treein(w: u32, regs: &mut Registers, cpu: &mut Cpu, view: &mut View) -
 
 // A depth at 0, else red, green or blue. Called, and not compiled into the run, where its leaves take registers from every step.
 #[inline(never)]
-#[tactic(auto, unfolding(instructions::specs::Tree::tree_val))]
+#[tactic(auto, unfolding(instructions::specs::Tree::tree_val), using(leaves::proofs::Channels::coloured_by_number))]
 fn tree_val(kind: u32, s: Screen, ram: &[u8], a: u32, b: u32, tree: &mut Tree) -> Result<(), Halt>
     requires { Placed (length ram.now) s tree.old }
     ensures halt { halt_of result ≡ choose (ltb 3 kind) 14 0 }
@@ -150,9 +150,7 @@ fn tree_val(kind: u32, s: Screen, ram: &[u8], a: u32, b: u32, tree: &mut Tree) -
 {
     match kind {
         0 => tree_depth(ram, s, tree, a, b),
-        1 => tree_colour(tree, Channel::Red, a, b),
-        2 => tree_colour(tree, Channel::Green, a, b),
-        3 => tree_colour(tree, Channel::Blue, a, b),
+        1..=3 => tree_colour(tree, Channel::from(kind), a, b),
         _ => return Err(Halt::NoTree),
     }
     Ok(())
