@@ -103,7 +103,7 @@ fill-requires c =
     let h = (sound_facts ((screen-accepted (length a.ram.now) a.s).0 c.requires.screen).1).height_low in
     record {
       screen = c.requires.screen;
-      across = c.requires.across;
+      across = omega (arith, c.requires.across);
       ordered = omega (arith, top p, bottom p, row_order (height a.s.size) (extremes.low-high (known p)) (scale-most (high_fits p)));
       down = omega (arith, bottom p, row_on_screen (scale-most (low_fits p)) (height a.s.size) (scale_least (low_fits p)) h);
       half = omega arith;
