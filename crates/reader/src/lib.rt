@@ -78,14 +78,6 @@ impl Area {
         let start = self.row_start(s, row);
         Ok(start..start + 2 * width(s.size) as usize)
     }
-
-    // A part of `ram` and not a copy; an empty one where the row is refused.
-    #[tactic(auto, using(crate::proofs::RowBounds::row_within, crate::proofs::RowBounds::row_wide), unfolding(rules::specs::Calls::part_start, rules::specs::Calls::row_length, rules::specs::Calls::part_bytes))]
-    fn row<'a>(self, ram: &'a [u8], s: Screen, row: u32) -> &'a [u8]
-        ensures { HandsBack (place_in self) ram.entry s row result }
-    {
-        &ram[self.row_part(ram, s, row).unwrap_or(0..0)]
-    }
 }
 
 pub fn row_part(ram: &[u8], s: Screen, row: u32) -> Result<Range<usize>, Refusal>
@@ -100,16 +92,18 @@ pub fn depth_row_part(ram: &[u8], s: Screen, row: u32) -> Result<Range<usize>, R
     Area::Depths.row_part(ram, s, row)
 }
 
-// The row's own colour bytes, a part of `ram` and not a copy.
+// The row's own colour bytes, a part of `ram` and not a copy; none where the row is refused.
+#[tactic(auto, using(crate::proofs::RowBounds::colours_within, crate::proofs::RowBounds::row_wide), unfolding(rules::specs::Calls::part_start, rules::specs::Calls::row_length, rules::specs::Calls::part_bytes))]
 pub fn row<'a>(ram: &'a [u8], s: Screen, row: u32) -> &'a [u8]
     ensures { HandsBack colour_at ram.entry s row result }
 {
-    Area::Colours.row(ram, s, row)
+    &ram[row_part(ram, s, row).unwrap_or(0..0)]
 }
 
 // The row's own depth bytes, likewise.
+#[tactic(auto, using(crate::proofs::RowBounds::depths_within, crate::proofs::RowBounds::row_wide), unfolding(rules::specs::Calls::part_start, rules::specs::Calls::row_length, rules::specs::Calls::part_bytes))]
 pub fn depth_row<'a>(ram: &'a [u8], s: Screen, row: u32) -> &'a [u8]
     ensures { HandsBack depth_at ram.entry s row result }
 {
-    Area::Depths.row(ram, s, row)
+    &ram[depth_row_part(ram, s, row).unwrap_or(0..0)]
 }
