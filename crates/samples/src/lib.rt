@@ -12,7 +12,7 @@ fn clamped(k: i32, count: usize) -> usize
     requires { count ≤ 40960 }
     ensures { Clamps k count result }
 {
-    // a branch: by `max`, a column without samples costs as much again
+    // a branch: by `max` a column without samples takes 35 instructions in place of 22
     if k < 0 {
         return 0;
     }
