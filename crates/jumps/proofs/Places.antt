@@ -20,10 +20,10 @@ module _ (w : ℕ) (regs : List ℕ) (cpu cpu' : Cpu) (to : ℕ)
     (ht : to ≡ choose (goes (opcode w) cpu.negative cpu.zero) (address regs w) (cpu.place + 1))
     (hc : cpu' ≡ at to cpu) where
   pub jumps_to : JMP ≤ opcode w → opcode w ≤ JGEL → opcode w ≢ CALL → RegisterSteps w regs cpu regs cpu'
-  jumps_to l h d memory ram view =
-      ap (λ (x : Cpu). machine regs x 0 view memory ram) hc
-      ∙ jumps regs cpu view memory ram w to
-      (case-none (length ram) (joined regs cpu 0 view) w (omega (arith, l)) h)
+  jumps_to l h d memory ram view given =
+      ap (λ (x : Cpu). machine regs x given view memory ram) hc
+      ∙ jumps regs cpu given view memory ram w to
+      (case-none (length ram) (joined regs cpu given view) w (omega (arith, l)) h)
       ht
       (rw (le-leb JMP (opcode w) l, le-leb (opcode w) JGEL h))
       d
@@ -32,8 +32,8 @@ module _ (w : ℕ) (regs : List ℕ) (cpu cpu' : Cpu) (to : ℕ)
       → opcode w ≡ CALL
       → regs' ≡ with_register regs 31 (cpu.place + 1)
       → RegisterSteps w regs cpu regs' cpu'
-  calls_to regs' e hr memory ram view =
-      ap (λ (x : Cpu). machine regs' x 0 view memory ram) hc
-      ∙ calls regs cpu view memory ram w to
-      (case-none (length ram) (joined regs cpu 0 view) w (omega (arith, e)) (omega (arith, e)))
+  calls_to regs' e hr memory ram view given =
+      ap (λ (x : Cpu). machine regs' x given view memory ram) hc
+      ∙ calls regs cpu given view memory ram w to
+      (case-none (length ram) (joined regs cpu given view) w (omega (arith, e)) (omega (arith, e)))
       ht regs' e hr

@@ -16,6 +16,10 @@ stepped m w =
     choose (eqb (word_halt current (length m.ram) m.state w) 0) (performed m w)
     (with_state (with_halt (word_halt current (length m.ram) m.state w) m.state) m)
 
+-- the halt number after a step: its halt's, and where it does not halt the one that stood before
+abbrev pub halt_after : ℕ → ℕ → ℕ
+halt_after halt given = choose (eqb halt 0) given halt
+
 -- what an instruction up to WRITE touches, and its halt's number, 0 for none
 pub record Plain : Type 0 where
   pub regs : List ℕ
@@ -30,12 +34,12 @@ plain regs cpu memory ram = record { regs = regs; cpu = cpu; halt = 0; memory = 
 abbrev pub plain_after : List ℕ → Cpu → ℕ → List ℕ → List ℕ → Plain
 plain_after regs cpu halt memory ram = record { regs = regs; cpu = cpu; halt = halt; memory = memory; ram = ram }
 
--- its step, which may be a halt, whatever screen and tree there are
+-- its step, which may be a halt, whatever screen and tree there are, and whatever halt number is given
 abbrev pub Steps : ℕ → Plain → Plain → Type 0
 Steps w p p' =
-    (view : View)
-    → machine p'.regs p'.cpu p'.halt view p'.memory p'.ram
-    ≡ stepped (machine p.regs p.cpu p.halt view p.memory p.ram) w
+    (view : View) (given : ℕ)
+    → machine p'.regs p'.cpu (halt_after p'.halt given) view p'.memory p'.ram
+    ≡ stepped (machine p.regs p.cpu (halt_after p.halt given) view p.memory p.ram) w
 
 -- of one that leaves the RAM alone, whatever it holds
 abbrev pub DataSteps : ℕ → (List ℕ → Plain) → (List ℕ → Plain) → Type 0
@@ -60,12 +64,12 @@ viewing regs cpu view ram = record { regs = regs; cpu = cpu; halt = 0; view = vi
 abbrev pub viewing_after : List ℕ → Cpu → ℕ → View → List ℕ → Viewing
 viewing_after regs cpu halt view ram = record { regs = regs; cpu = cpu; halt = halt; view = view; ram = ram }
 
--- its step, which may be a halt, whatever the data memory holds
+-- its step, which may be a halt, whatever the data memory holds, and whatever halt number is given
 abbrev pub ViewSteps : ℕ → Viewing → Viewing → Type 0
 ViewSteps w s s' =
-    (memory : List ℕ)
-    → machine s'.regs s'.cpu s'.halt s'.view memory s'.ram
-    ≡ stepped (machine s.regs s.cpu s.halt s.view memory s.ram) w
+    (memory : List ℕ) (given : ℕ)
+    → machine s'.regs s'.cpu (halt_after s'.halt given) s'.view memory s'.ram
+    ≡ stepped (machine s.regs s.cpu (halt_after s.halt given) s.view memory s.ram) w
 
 -- of one that leaves the RAM alone, whatever it holds
 abbrev pub TreeSteps : ℕ → (List ℕ → Viewing) → (List ℕ → Viewing) → Type 0

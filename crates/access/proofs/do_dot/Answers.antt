@@ -11,7 +11,7 @@ use Rattle.instructions.specs.Jumps.{is_jump}
 use Rattle.pieces.specs.Pieces.{joined}
 use Rattle.pieces.proofs.Cases.{case-DOT}
 use Rattle.pieces.proofs.Results.{result-DOT}
-use Rattle.pieces.proofs.Joined.{stops, puts_result}
+use Rattle.pieces.proofs.Joined.{stops_by, puts_result}
 use Rattle.access.proofs.do_dot.Goals as goal
 
 -- what the test says, of what the registers hold
@@ -20,19 +20,19 @@ above a b = ltb 1020 a || ltb 1020 b
 
 pub returns-then-a-b : goal.returns-then-a-b
 returns-then-a-b c =
-    λ ram view.
+    λ ram view given.
     let a = c.args in
-    stops a.regs.now.words a.cpu.now view a.memory.now ram a.w OutsideData
-    (case-DOT (length ram) (joined a.regs.now.words a.cpu.now 0 view) a.w c.requires.opcode
+    stops_by a.regs.now.words a.cpu.now given view a.memory.now ram a.w OutsideData
+    (case-DOT (length ram) (joined a.regs.now.words a.cpu.now given view) a.w c.requires.opcode
     ∙ ap (λ (t : Bool). choose t 13 0) (sym (ap₂ above c.in_r2-a.ensures c.in_r3-b.ensures) ∙ c.if-a-b.true))
 
 pub returns : goal.returns
 returns c =
-    λ ram view.
+    λ ram view given.
     let a = c.args in
     let e = c.requires.opcode in
-    puts_result a.regs.now.words a.cpu.now view a.memory.now ram a.w _ _ _
-    (case-DOT (length ram) (joined a.regs.now.words a.cpu.now 0 view) a.w e
+    puts_result a.regs.now.words a.cpu.now given view a.memory.now ram a.w _ _ _
+    (case-DOT (length ram) (joined a.regs.now.words a.cpu.now given view) a.w e
     ∙ ap (λ (t : Bool). choose t 13 0) (sym (ap₂ above c.in_r2-a.ensures c.in_r3-b.ensures) ∙ c.if-a-b.false))
     (ap sets_flags e)
     (ap is_jump e)

@@ -12,18 +12,18 @@ use Rattle.access.proofs.do_ld.Goals as goal
 
 pub returns-in_err-a : goal.returns-in_err-a
 returns-in_err-a c =
-    λ ram view.
+    λ ram view given.
     let a = c.args in
-    stops_with a.regs.now.words a.cpu.now view a.memory.now ram a.w _ _ c.from_residual.ensures.1
-    (case-LD (length ram) (joined a.regs.now.words a.cpu.now 0 view) a.w c.requires.opcode ∙ sym c.in_err-a.ensures.halt)
+    stops_with a.regs.now.words a.cpu.now given view a.memory.now ram a.w _ _ c.from_residual.ensures.1
+    (case-LD (length ram) (joined a.regs.now.words a.cpu.now given view) a.w c.requires.opcode ∙ sym c.in_err-a.ensures.halt)
 
 pub returns : goal.returns
 returns c =
-    λ ram view.
+    λ ram view given.
     let a = c.args in
     let e = c.requires.opcode in
-    puts_result a.regs.now.words a.cpu.now view a.memory.now ram a.w _ _ _
-    (case-LD (length ram) (joined a.regs.now.words a.cpu.now 0 view) a.w e ∙ sym c.in_ok-a.ensures.halt)
+    puts_result a.regs.now.words a.cpu.now given view a.memory.now ram a.w _ _ _
+    (case-LD (length ram) (joined a.regs.now.words a.cpu.now given view) a.w e ∙ sym c.in_ok-a.ensures.halt)
     (ap sets_flags e)
     (ap is_jump e)
     (ap (λ (i : ℕ). get_or a.memory.now i 0) c.in_ok-a.ensures.place.0

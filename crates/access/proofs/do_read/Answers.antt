@@ -11,20 +11,20 @@ use Rattle.access.proofs.do_read.Goals as goal
 
 pub returns-in_err-move_check : goal.returns-in_err-move_check
 returns-in_err-move_check c =
-    λ view.
+    λ view given.
     let a = c.args in
-    stops_with a.regs.now a.cpu.now view a.memory.now a.ram.now a.w _ _ c.from_residual.ensures.1
-    (halt_is a.regs.now a.cpu.now view a.memory.now a.ram.now a.w
-    (case-READ (length a.ram.now) (joined a.regs.now a.cpu.now 0 view) a.w c.requires.opcode)
+    stops_with a.regs.now a.cpu.now given view a.memory.now a.ram.now a.w _ _ c.from_residual.ensures.1
+    (halt_is a.regs.now a.cpu.now given view a.memory.now a.ram.now a.w
+    (case-READ (length a.ram.now) (joined a.regs.now a.cpu.now given view) a.w c.requires.opcode)
     c.in_err-move_check.ensures c.in_r1-word.ensures c.in_r2-byte.ensures)
 
 pub returns : goal.returns
 returns c =
-    λ view.
+    λ view given.
     let a = c.args in
-    reads a.regs.now a.cpu.now view a.memory.now a.ram.now a.w _
-    (halt_is a.regs.now a.cpu.now view a.memory.now a.ram.now a.w
-    (case-READ (length a.ram.now) (joined a.regs.now a.cpu.now 0 view) a.w c.requires.opcode)
+    reads a.regs.now a.cpu.now given view a.memory.now a.ram.now a.w _
+    (halt_is a.regs.now a.cpu.now given view a.memory.now a.ram.now a.w
+    (case-READ (length a.ram.now) (joined a.regs.now a.cpu.now given view) a.w c.requires.opcode)
     c.in_ok-move_check.ensures c.in_r1-word.ensures c.in_r2-byte.ensures)
     c.onward.ensures
     _ c.requires.opcode
