@@ -8,7 +8,7 @@ use Rattle.instructions.specs.declared.Halt.TheVariants.{NoScreen}
 use Rattle.instructions.specs.Halts.{screen_set}
 use Rattle.pieces.specs.Pieces.{joined}
 use Rattle.pieces.proofs.Cases.{case-SCRSET}
-use Rattle.pieces.proofs.Joined.{stops}
+use Rattle.pieces.proofs.Joined.{stops_by}
 use Rattle.views.proofs.Viewed.{sets_screen}
 use Rattle.views.proofs.do_scrset.Goals.{After-sound}
 use Rattle.views.proofs.do_scrset.Goals as goal
@@ -19,19 +19,19 @@ is_sound c = sym (c.sound.ensures ∙ ap (sound (length c.args.ram.now)) c.scree
 
 pub returns-then-not-sound : goal.returns-then-not-sound
 returns-then-not-sound c =
-    λ memory.
+    λ memory given.
     let a = c.args in
-    stops a.regs.now a.cpu.now a.view.now memory a.ram.now a.w NoScreen
-    (case-SCRSET (length a.ram.now) (joined a.regs.now a.cpu.now 0 a.view.now) a.w c.requires.opcode
+    stops_by a.regs.now a.cpu.now given a.view.now memory a.ram.now a.w NoScreen
+    (case-SCRSET (length a.ram.now) (joined a.regs.now a.cpu.now given a.view.now) a.w c.requires.opcode
     ∙ ap (λ (t : Bool). choose (not t) 17 0) (is_sound (goal.at.returns-then-not-sound c).After-sound)
     ∙ rw c.if-not-sound.true)
 
 pub returns : goal.returns
 returns c =
-    λ memory.
+    λ memory given.
     let a = c.args in
-    sets_screen a.regs.now a.cpu.now a.view.now memory a.ram.now a.w
-    (case-SCRSET (length a.ram.now) (joined a.regs.now a.cpu.now 0 a.view.now) a.w c.requires.opcode
+    sets_screen a.regs.now a.cpu.now given a.view.now memory a.ram.now a.w
+    (case-SCRSET (length a.ram.now) (joined a.regs.now a.cpu.now given a.view.now) a.w c.requires.opcode
     ∙ ap (λ (t : Bool). choose (not t) 17 0) (is_sound (goal.at.returns c).After-sound)
     ∙ rw c.if-not-sound.false)
     _ c.onward.ensures _ c.requires.opcode

@@ -11,17 +11,17 @@ use Rattle.views.proofs.do_treein.Goals as goal
 
 pub returns-in_err-want_tree : goal.returns-in_err-want_tree
 returns-in_err-want_tree c =
-    λ ram memory.
+    λ ram memory given.
     let a = c.args in
-    stops_with a.regs.now.words a.cpu.now a.view.now memory ram a.w _ _ c.from_residual.ensures.1
-    (case-TREEIN (length ram) (joined a.regs.now.words a.cpu.now 0 a.view.now) a.w c.requires.opcode ∙ rw c.in_err-want_tree.ensures.err.1 (sym c.in_err-want_tree.ensures.err.0))
+    stops_with a.regs.now.words a.cpu.now given a.view.now memory ram a.w _ _ c.from_residual.ensures.1
+    (case-TREEIN (length ram) (joined a.regs.now.words a.cpu.now given a.view.now) a.w c.requires.opcode ∙ rw c.in_err-want_tree.ensures.err.1 (sym c.in_err-want_tree.ensures.err.0))
 
 pub returns : goal.returns
 returns c =
-    λ ram memory.
+    λ ram memory given.
     let a = c.args in
-    grows_in a.regs.now.words a.cpu.now a.view.now memory ram a.w
-    (case-TREEIN (length ram) (joined a.regs.now.words a.cpu.now 0 a.view.now) a.w c.requires.opcode ∙ rw c.in_ok-want_tree.ensures.ok)
+    grows_in a.regs.now.words a.cpu.now given a.view.now memory ram a.w
+    (case-TREEIN (length ram) (joined a.regs.now.words a.cpu.now given a.view.now) a.w c.requires.opcode ∙ rw c.in_ok-want_tree.ensures.ok)
     _ c.onward.ensures c.in_ok-want_tree.ensures.ok _ _ c.put_past.ensures c.requires.opcode
     (c.tree_in.ensures
     ∙ ap₂ (λ (u v : ℕ). tree_in u v a.view.now.tree) c.in_r1.ensures c.in_r2.ensures)

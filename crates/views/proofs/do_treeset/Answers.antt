@@ -8,17 +8,17 @@ use Rattle.instructions.specs.Words.{in_r1, in_r2}
 use Rattle.instructions.specs.Tree.{refuses_place}
 use Rattle.pieces.specs.Pieces.{joined}
 use Rattle.pieces.proofs.Cases.{case-TREESET}
-use Rattle.pieces.proofs.Joined.{stops, stops_with}
+use Rattle.pieces.proofs.Joined.{stops_by, stops_with}
 use Rattle.views.proofs.Viewed.{plants}
 use Rattle.views.proofs.do_treeset.Goals.{After-refuses_place}
 use Rattle.views.proofs.do_treeset.Goals as goal
 
 pub returns-in_err-want_screen : goal.returns-in_err-want_screen
 returns-in_err-want_screen c =
-    λ ram memory.
+    λ ram memory given.
     let a = c.args in
-    stops_with a.regs.now a.cpu.now a.view.now memory ram a.w _ _ c.from_residual.ensures.1
-    (case-TREESET (length ram) (joined a.regs.now a.cpu.now 0 a.view.now) a.w c.requires.opcode ∙ rw c.in_err-want_screen.ensures.err.1 (sym c.in_err-want_screen.ensures.err.0))
+    stops_with a.regs.now a.cpu.now given a.view.now memory ram a.w _ _ c.from_residual.ensures.1
+    (case-TREESET (length ram) (joined a.regs.now a.cpu.now given a.view.now) a.w c.requires.opcode ∙ rw c.in_err-want_screen.ensures.err.1 (sym c.in_err-want_screen.ensures.err.0))
 
 -- the test is the definition's, of the place that the registers give
 is_refused : (c : After-refuses_place)
@@ -29,18 +29,18 @@ is_refused c =
 
 pub returns-then-refuses_place : goal.returns-then-refuses_place
 returns-then-refuses_place c =
-    λ ram memory.
+    λ ram memory given.
     let a = c.args in
-    stops a.regs.now a.cpu.now a.view.now memory ram a.w NoTree
-    (case-TREESET (length ram) (joined a.regs.now a.cpu.now 0 a.view.now) a.w c.requires.opcode
+    stops_by a.regs.now a.cpu.now given a.view.now memory ram a.w NoTree
+    (case-TREESET (length ram) (joined a.regs.now a.cpu.now given a.view.now) a.w c.requires.opcode
     ∙ rw c.in_ok-want_screen.ensures.ok (ap (λ (t : Bool). choose t 14 0) (is_refused (goal.at.returns-then-refuses_place c).After-refuses_place ∙ c.if-refuses_place.true)))
 
 pub returns : goal.returns
 returns c =
-    λ ram memory.
+    λ ram memory given.
     let a = c.args in
-    plants a.regs.now a.cpu.now a.view.now memory ram a.w
-    (case-TREESET (length ram) (joined a.regs.now a.cpu.now 0 a.view.now) a.w c.requires.opcode
+    plants a.regs.now a.cpu.now given a.view.now memory ram a.w
+    (case-TREESET (length ram) (joined a.regs.now a.cpu.now given a.view.now) a.w c.requires.opcode
     ∙ rw c.in_ok-want_screen.ensures.ok (ap (λ (t : Bool). choose t 14 0) (is_refused (goal.at.returns c).After-refuses_place ∙ c.if-refuses_place.false)))
     _ c.onward.ensures _ c.requires.opcode
     (c.plant.ensures

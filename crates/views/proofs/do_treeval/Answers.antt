@@ -17,34 +17,34 @@ use Rattle.views.proofs.do_treeval.Goals as goal
 
 pub returns-in_err-want_tree : goal.returns-in_err-want_tree
 returns-in_err-want_tree c =
-    λ memory.
+    λ memory given.
     let a = c.args in
-    stops_with a.regs.now.words a.cpu.now a.view.now memory a.ram.now a.w _ _ c.from_residual.ensures.1
-    (case-TREEVAL (length a.ram.now) (joined a.regs.now.words a.cpu.now 0 a.view.now) a.w c.requires.opcode ∙ rw c.in_err-want_tree.ensures.err.1 (sym c.in_err-want_tree.ensures.err.0))
+    stops_with a.regs.now.words a.cpu.now given a.view.now memory a.ram.now a.w _ _ c.from_residual.ensures.1
+    (case-TREEVAL (length a.ram.now) (joined a.regs.now.words a.cpu.now given a.view.now) a.w c.requires.opcode ∙ rw c.in_err-want_tree.ensures.err.1 (sym c.in_err-want_tree.ensures.err.0))
 
 -- where there is a tree, the halt goes by the imm that the code reads
-halt_is : (c : After-tree_val)
-    → word_halt current (length c.args.ram.now) (joined c.args.regs.now.words c.args.cpu.now 0 c.args.view.now) c.args.w
+halt_is : (c : After-tree_val) (given : ℕ)
+    → word_halt current (length c.args.ram.now) (joined c.args.regs.now.words c.args.cpu.now given c.args.view.now) c.args.w
     ≡ choose (ltb 3 c.imm.result) 14 0
-halt_is c =
+halt_is c given =
     let a = c.args in
-    case-TREEVAL (length a.ram.now) (joined a.regs.now.words a.cpu.now 0 a.view.now) a.w c.requires.opcode
+    case-TREEVAL (length a.ram.now) (joined a.regs.now.words a.cpu.now given a.view.now) a.w c.requires.opcode
     ∙ rw c.in_ok-want_tree.ensures.ok (ap (λ (i : ℕ). choose (ltb 3 i) 14 0) (sym c.imm.ensures))
 
 pub returns-in_err-tree_val : goal.returns-in_err-tree_val
 returns-in_err-tree_val c =
-    λ memory.
+    λ memory given.
     let a = c.args in
     rw c.in_err-tree_val.ensures.err
-    (stops_with a.regs.now.words a.cpu.now a.view.now memory a.ram.now a.w _ _ c.from_residual-in_err-tree_val.ensures.1
-    (halt_is (goal.at.returns-in_err-tree_val c).After-tree_val ∙ sym c.in_err-tree_val.ensures.halt))
+    (stops_with a.regs.now.words a.cpu.now given a.view.now memory a.ram.now a.w _ _ c.from_residual-in_err-tree_val.ensures.1
+    (halt_is (goal.at.returns-in_err-tree_val c).After-tree_val given ∙ sym c.in_err-tree_val.ensures.halt))
 
 pub returns : goal.returns
 returns c =
-    λ memory.
+    λ memory given.
     let a = c.args in
-    grows_val a.regs.now.words a.cpu.now a.view.now memory a.ram.now a.w
-    (halt_is (goal.at.returns c).After-tree_val ∙ sym c.in_ok-tree_val.ensures.halt)
+    grows_val a.regs.now.words a.cpu.now given a.view.now memory a.ram.now a.w
+    (halt_is (goal.at.returns c).After-tree_val given ∙ sym c.in_ok-tree_val.ensures.halt)
     _ c.onward.ensures c.in_ok-want_tree.ensures.ok _ _ c.put_past.ensures c.requires.opcode
     (c.in_ok-tree_val.ensures.ok
     ∙ ap (λ (i : ℕ). tree_val i a.view.now.screen a.ram.now c.in_r1.result c.in_r2.result a.view.now.tree) c.imm.ensures

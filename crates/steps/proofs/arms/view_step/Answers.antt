@@ -5,12 +5,12 @@ use lib.ListN.{length}
 use Rattle.instructions.specs.declared.Halt.TheVariants.{NoInstruction}
 use Rattle.pieces.specs.Pieces.{joined}
 use Rattle.pieces.proofs.Cases.{case-above}
-use Rattle.pieces.proofs.Joined.{stops}
+use Rattle.pieces.proofs.Joined.{stops_by}
 use Rattle.steps.proofs.arms.view_step.Goals as goal
 
 pub returns-in_default : goal.returns-in_default
 returns-in_default c =
-    λ memory.
+    λ memory given.
     let a = c.args in
-    stops a.regs.now.words a.cpu.now a.view.now memory a.ram.now a.w NoInstruction
-    (case-above (length a.ram.now) (joined a.regs.now.words a.cpu.now 0 a.view.now) a.w (omega (arith, c.opcode.ensures, c.requires.high)))
+    stops_by a.regs.now.words a.cpu.now given a.view.now memory a.ram.now a.w NoInstruction
+    (case-above (length a.ram.now) (joined a.regs.now.words a.cpu.now given a.view.now) a.w (omega (arith, c.opcode.ensures, c.requires.high)))
