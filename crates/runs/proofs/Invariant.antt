@@ -52,8 +52,8 @@ stops_past program regs cpu view memory ram (Err g) h x e p = rw (x, e) (step_pa
 pub ready_facts : {program : List ℕ} {m : Machine} → Ready program m → WellFormed (length m.ram) m.state
 ready_facts r = well_formed_facts r.well_formed
 
-pub ready_shows : {program regs : List ℕ} {cpu : Cpu} {view : View} {memory ram : List ℕ}
-    → Ready program (machine regs cpu 0 view memory ram)
+pub ready_shows : {program regs : List ℕ} {cpu : Cpu} {halt : ℕ} {view : View} {memory ram : List ℕ}
+    → Ready program (machine regs cpu halt view memory ram)
     → Shows (length ram) view
 ready_shows r =
     let f = ready_facts r in

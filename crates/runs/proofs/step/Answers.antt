@@ -8,6 +8,7 @@ use Rattle.instructions.specs.Opcodes.{current}
 use Rattle.instructions.specs.Step.{step}
 use Rattle.pieces.specs.Pieces.{machine}
 use Rattle.pieces.specs.Steps.{stepped}
+use Rattle.pieces.proofs.Joined.{halt_after_none}
 use Rattle.runs.proofs.Invariant.{stops_past, step_at, ready_shows}
 use Rattle.runs.proofs.step.Goals.{After-opcode}
 use Rattle.runs.proofs.step.Goals as goal
@@ -34,7 +35,8 @@ is_step c = step_at _ _ refl _ (found c).1 (found c).0
 
 pub returns-then-opcode-le-WRITE : goal.returns-then-opcode-le-WRITE
 returns-then-opcode-le-WRITE c =
-    c.plain_step.ensures c.args.view.now ∙ is_step (goal.at.returns-then-opcode-le-WRITE c).After-opcode
+    (rw (halt_after_none (halt_of c.plain_step.result)) at (c.plain_step.ensures c.args.view.now 0))
+    ∙ is_step (goal.at.returns-then-opcode-le-WRITE c).After-opcode
 
 pub view_step-requires : goal.view_step-requires
 view_step-requires c = record {
@@ -45,4 +47,5 @@ view_step-requires c = record {
 
 pub returns : goal.returns
 returns c =
-    c.view_step.ensures c.args.memory.now ∙ is_step (goal.at.returns c).After-opcode
+    (rw (halt_after_none (halt_of c.view_step.result)) at (c.view_step.ensures c.args.memory.now 0))
+    ∙ is_step (goal.at.returns c).After-opcode
