@@ -5,6 +5,7 @@ use mathlib.Core.Bool.{Bool, true, false, cond}
 use Prim.Native.Nat.{ℕ, zero, suc, ◌+◌, ◌*◌, ◌-◌, ◌%◌, ◌<◌}
 use native.Mathlib.Nat.{mul-suc, mul-zero, add-mod-mod, mod-add-mod}
 use native.Mathlib.Omega.{arith}
+use lib.Bits
 use lib.Dec.{ltb}
 use lib.IntN.{ℤ, pos, negsuc, sub_ℕ, neg_ℤ, ◌+ℤ◌, ◌-ℤ◌, ◌*ℤ◌, *ℤ-zero}
 use lib.Signed.{mag}
@@ -80,3 +81,7 @@ pub mod32-bits : (z : ℤ) → mag z < 2147483648 → of_z w32 z ≡ mod32 z
 unfolding mod32
 mod32-bits (pos n) h = omega arith
 mod32-bits (negsuc n) h = omega arith
+
+-- the low 32 bits, as code takes them
+pub low_mask : (n : ℕ) → Bits.bit_and n 4294967295 ≡ n % 4294967296
+low_mask n = Bits.and_mask n 32
