@@ -1,19 +1,33 @@
 -- Number 7 is never answered: with vertices in range and at most 640 by 512 pixels an edge value is within 419,659,776.
 use Prim.Native.Nat.{ℕ, ◌≤◌}
-use mathlib.Core.Path.{◌≡◌, ap}
-use mathlib.Core.Bool.{Bool, true, false, ◌||◌, not}
+use mathlib.Core.Path.{◌≡◌, refl, ◌∙◌, ap}
+use mathlib.Core.Bool.{Bool, true, false, ◌&&◌, ◌||◌, not}
 use native.Mathlib.Omega.{arith}
-use lib.Dec.{ltb}
+use lib.Dec.{leb, ltb}
 use lib.IntN.{ℤ, pos, negsuc}
+use lib.Signed.{lt_z}
 use borrow.Author.Tests.{le-leb}
 use Rattle.ints.proofs.Bounds.{Within}
 use Rattle.rules.specs.declared.Vertices.{Vertices}
 use Rattle.rules.specs.Folds.{pixels}
 use Rattle.rules.specs.Triangles.{Edge, edge1, edge2, edge3, edge_value, sample}
 use Rattle.rules.specs.Numbers.{in_signed32, vertices_in_range, edge_too_large, triangle_too_large}
+use Rattle.rules.proofs.Choices.{not_leb}
 use Rattle.rules.proofs.Folds.{pixels-none}
 use Rattle.edges.specs.Edges.{edge_in_range}
-use Rattle.edges.proofs.Within.{edge_within, value_within, edges_in_range}
+use Rattle.edges.proofs.Within.{edge_within, value_within, edges_in_range, read, read_in_range}
+
+-- the range as two tests
+
+either : (a b : Bool) → not (a && b) ≡ not a || not b
+either true b = refl
+either false b = refl
+
+pub out_of_range : (z : ℤ) → not (in_signed32 z) ≡ lt_z z (negsuc 2147483647) || lt_z (pos 2147483647) z
+out_of_range (pos n) = not_leb n 2147483647
+out_of_range (negsuc n) = rw (either (leb n 2147483647) true, not_leb n 2147483647)
+
+-- never
 
 small : (z : ℤ) → Within 419659776 z → not (in_signed32 z) ≡ false
 small (pos n) h = rw (le-leb n 2147483647 (omega (arith, h.within)))
@@ -43,3 +57,12 @@ triangle_never_too_large t r w h hw hh =
     neither
     (neither (never_too_large (edge1 t) r1 x y hx hy) (never_too_large (edge2 t) r2 x y hx hy))
     (never_too_large (edge3 t) r3 x y hx hy)))
+
+-- what a caller learns, of an edge that the callee reads from the machine's words
+
+module _ (e : Edge) (r : edge_in_range e ≡ true) {b : Bool} where
+  pub pixel-answer : {x y : ℕ} → b ≡ edge_too_large (read e) x y → x ≤ 640 → y ≤ 512 → b ≡ false
+  pixel-answer {x} {y} k hx hy = k ∙ never_too_large (read e) (read_in_range e r) x y hx hy
+
+  pub edge_answer : {w h : ℕ} → b ≡ ltb 0 (pixels (edge_too_large (read e)) w h) → w ≤ 640 → h ≤ 512 → b ≡ false
+  edge_answer {w} {h} k hw hh = k ∙ edge_never_too_large (read e) (read_in_range e r) w h hw hh

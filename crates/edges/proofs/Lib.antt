@@ -1,3 +1,4 @@
 pub mod Within
 pub mod Codes
 pub mod Large
+pub mod Between

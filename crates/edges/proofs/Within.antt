@@ -1,17 +1,20 @@
 -- An edge between vertices in range: its numbers are within 8,192, its value at a pixel within 419,659,776 and, on the largest screen,
--- within 415,079,688. Said once over the edge.
+-- within 415,079,688; and what is read back from the machine's words is the same edge. Said once over the edge.
 use Prim.Native.Nat.{ℕ, ◌+◌, ◌*◌, ◌≤◌, ◌<◌}
-use mathlib.Core.Path.{◌≡◌}
+use mathlib.Core.Path.{◌≡◌, ◌∙◌, ap}
 use mathlib.Core.Bool.{true, ◌&&◌}
 use native.Mathlib.Omega.{arith}
 use lib.IntN.{ℤ, ◌-ℤ◌}
+use mir.Syntax.{w32}
+use mir.Val.{to_z, of_z}
+use mir.ValLaws.{to_z-of_z}
 use Rattle.std.proofs.lemmas.Int.{ints}
-use Rattle.ints.proofs.Bounds.{Within, within_pos, within_sub, within_mul}
+use Rattle.ints.proofs.Bounds.{Within, within_pos, within_sub, within_mul, fits_32}
 use Rattle.rules.specs.declared.Vertices.{Vertices}
 use Rattle.rules.specs.Triangles.{Edge, dx, dy, edge1, edge2, edge3, edge_value, sample_offset, sample}
 use Rattle.rules.specs.Numbers.{vertex_in_range, vertices_in_range}
 use Rattle.rules.proofs.Choices.{and_true}
-use Rattle.edges.specs.Edges.{edge_in_range}
+use Rattle.edges.specs.Edges.{edge_from, edge_in_range}
 
 pub record EdgeWithin (e : Edge) : Type 0 where
   pub in_x1 : Within 8192 e.x1
@@ -115,3 +118,23 @@ module _ (v : Vertices) (h : vertices_in_range v ≡ true) where
 
   pub edges_in_range : (edge_in_range (edge1 v) ≡ true) × (edge_in_range (edge2 v) ≡ true) × (edge_in_range (edge3 v) ≡ true)
   edges_in_range = (edge1_in_range, edge2_in_range, edge3_in_range)
+
+-- an edge as a callee reads it, from the machine's words
+abbrev pub read : Edge → Edge
+read e =
+    edge_from (to_z w32 (of_z w32 e.x1)) (to_z w32 (of_z w32 e.y1)) (to_z w32 (of_z w32 e.x2)) (to_z w32 (of_z w32 e.y2))
+
+module _ (e : Edge) (h : edge_in_range e ≡ true) where
+  pub read_edge : read e ≡ e
+  read_edge =
+      let w = edge_within e h in
+      λ i.
+      record {
+        x1 = to_z-of_z w32 e.x1 (fits_32 w.in_x1 (omega arith)) i;
+        y1 = to_z-of_z w32 e.y1 (fits_32 w.in_y1 (omega arith)) i;
+        x2 = to_z-of_z w32 e.x2 (fits_32 w.in_x2 (omega arith)) i;
+        y2 = to_z-of_z w32 e.y2 (fits_32 w.in_y2 (omega arith)) i;
+      }
+
+  pub read_in_range : edge_in_range (read e) ≡ true
+  read_in_range = ap edge_in_range read_edge ∙ h

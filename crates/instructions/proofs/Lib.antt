@@ -4,6 +4,7 @@ pub mod Registers
 pub mod Standing
 pub mod Halts
 pub mod Effects
+pub mod Filled
 pub mod Made
 pub mod Lengths
 pub mod WellFormed
