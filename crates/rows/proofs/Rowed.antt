@@ -62,6 +62,12 @@ module _ {l : Line} {a : ℕ} {m : Masks} {d : Drawing} (q : ChunkAsked l a m d)
       → ChunkDone l a d (drawing w.ram (record { covered = n; written = w.count }))
   chunk_done e c = record { covers = omega (arith, e, all_ones); writes = c.counts; leaves = c.leaves }
 
+-- the part of the columns from a up to `to` that lies in a's chunk
+pub in_chunk : {a to past : ℕ} → a < to → (past ≤ 64) × (past ≤ a % 16 + (to - a)) × ((past ≡ 64) ⊎ (past ≡ a % 16 + (to - a)))
+    → (a % 16 < past) × (past ≤ 64)
+in_chunk h (l, k, inl e) = (omega arith, l)
+in_chunk h (l, k, inr e) = (omega arith, l)
+
 -- what holds before column a
 pub record Across (l : Line) (from : ℕ) (d₀ d : Drawing) (a : ℕ) : Type 0 where
   pub begun : from ≤ a
