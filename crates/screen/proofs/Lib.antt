@@ -1,3 +1,4 @@
 pub mod Bounds
 pub mod Fills
 pub mod Pairs
+pub mod Tests
