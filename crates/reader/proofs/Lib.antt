@@ -1,2 +1,4 @@
+pub mod Checked
+pub mod Located
 pub mod RowBounds
 pub mod Unique
