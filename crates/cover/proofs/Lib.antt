@@ -3,4 +3,5 @@ pub mod Quotients
 pub mod Along
 pub mod Crossing
 pub mod Meeting
+pub mod Signs
 pub mod Unbroken
