@@ -5,7 +5,7 @@ use mathlib.Core.Path.{◌≡◌, sym, ◌∙◌, subst}
 use mathlib.Core.Bool.{true, ◌&&◌}
 use native.Mathlib.Omega.{arith}
 use lib.IntN.{ℤ, pos, nat_abs, ◌*ℤ◌}
-use lib.Signed.{le_z, mag}
+use lib.Signed.{le_z, mag, ◌<ℤ◌}
 use lib.Dec.{T, ltb}
 use mir.Syntax.{w32, w64}
 use mir.Val.{hbits, to_z, of_z}
@@ -15,15 +15,16 @@ use Rattle.ints.proofs.Bounds.{fits_32, Within, within_range, within_lit, within
 use Rattle.ints.proofs.Machine.{Got, got_in, got_lit, Code, known, ◌⊠◌, reads_as}
 use Rattle.rules.specs.declared.Vertices.{Vertices}
 use Rattle.rules.specs.Triangles.{sample, doubled_area}
+use Rattle.rules.specs.Numbers.{vertices_in_range}
 use Rattle.rules.proofs.Choices.{and_true}
 use Rattle.edges.specs.declared.corners.Corners.{Corners}
 use Rattle.edges.proofs.Within.{six, vertex_within}
 use Rattle.interpolation.specs.declared.Values.{Values}
 use Rattle.interpolation.specs.Interpolation.{value_in_range, values_in_range, numerator_a, numerator_b, numerator}
-use Rattle.interpolation.specs.Interpolation.{in_units, rounded_down}
+use Rattle.interpolation.specs.Interpolation.{in_units, raise, rounded_down, through_a, through_b, through_c}
 use Rattle.interpolation.proofs.Cramer.{a-by-differences, b-by-differences, by_differences}
 use Rattle.through.specs.declared.Solvable.{Solvable}
-use Rattle.through.specs.Through.{Small, determinant}
+use Rattle.through.specs.Through.{Small, determinant, CanDivide}
 
 pub record VerticesWithin (v : Vertices) : Type 0 where
   pub x1 : Within 8192 v.x1
@@ -33,10 +34,9 @@ pub record VerticesWithin (v : Vertices) : Type 0 where
   pub x3 : Within 8192 v.x3
   pub y3 : Within 8192 v.y3
 
-pub corners_within : (c : Corners) → VerticesWithin c.vertices
-corners_within c =
-    let v = c.vertices in
-    let s = six v c.in_range in
+pub vertices_within : (v : Vertices) → vertices_in_range v ≡ true → VerticesWithin v
+vertices_within v h =
+    let s = six v h in
     record {
       x1 = vertex_within v.x1 s.in_x1;
       y1 = vertex_within v.y1 s.in_y1;
@@ -45,6 +45,9 @@ corners_within c =
       x3 = vertex_within v.x3 s.in_x3;
       y3 = vertex_within v.y3 s.in_y3;
     }
+
+pub corners_within : (c : Corners) → VerticesWithin c.vertices
+corners_within c = vertices_within c.vertices c.in_range
 
 pub record ValuesWithin (r : Values) : Type 0 where
   pub r1 : Within 32767 r.r1
@@ -67,8 +70,11 @@ pub record AllWithin (v : Vertices) (r : Values) : Type 0 where
   pub vertices : VerticesWithin v
   pub values : ValuesWithin r
 
+pub all_within : (v : Vertices) (r : Values) → vertices_in_range v ≡ true → values_in_range r ≡ true → AllWithin v r
+all_within v r h i = record { vertices = vertices_within v h; values = values_within r i }
+
 pub within : (s : Solvable) → AllWithin s.corners.vertices s.values
-within s = record { vertices = corners_within s.corners; values = values_within s.values s.in_range }
+within s = all_within s.corners.vertices s.values s.corners.in_range s.in_range
 
 -- what is worked out of them
 
@@ -79,40 +85,44 @@ area_within v w =
     (within_mul (within_sub w.x2 w.x1) (within_sub w.y3 w.y1))
     (within_mul (within_sub w.x3 w.x1) (within_sub w.y2 w.y1))
 
-module _ (s : Solvable) where
-  abbrev v : Vertices
-  v = s.corners.vertices
-
-  abbrev r : Values
-  r = s.values
-
+module _ (v : Vertices) (r : Values) (h : AllWithin v r) where
   abbrev w : VerticesWithin v
-  w = (within s).vertices
+  w = h.vertices
 
   abbrev u : ValuesWithin r
-  u = (within s).values
+  u = h.values
 
-  pub a_within : Within 2147418112 (numerator_a v r)
-  a_within =
+  pub numerator_a_within : Within 2147418112 (numerator_a v r)
+  numerator_a_within =
       subst (Within 2147418112) (sym (a-by-differences v r))
       (within_sub
       (within_mul (within_sub u.r2 u.r1) (within_sub w.y3 w.y1))
       (within_mul (within_sub u.r3 u.r1) (within_sub w.y2 w.y1)))
 
-  pub b_within : Within 2147418112 (numerator_b v r)
-  b_within =
+  pub numerator_b_within : Within 2147418112 (numerator_b v r)
+  numerator_b_within =
       subst (Within 2147418112) (sym (b-by-differences v r))
       (within_sub
       (within_mul (within_sub w.x2 w.x1) (within_sub u.r3 u.r1))
       (within_mul (within_sub w.x3 w.x1) (within_sub u.r2 u.r1)))
 
-  pub numerator_within : Within 52792126865408 (numerator v r (sample 0 0))
+  pub exact_within : Within 52792126865408 (numerator v r (sample 0 0))
   unfolding sample
-  numerator_within =
+  exact_within =
       subst (Within 52792126865408) (sym (by_differences v r (sample 0 0)))
       (within_add
-      (within_add (within_mul u.r1 (area_within v w)) (within_mul a_within (within_sub (within_lit {n = 4} {z = pos 4} tt) w.x1)))
-      (within_mul b_within (within_sub (within_lit {n = 4} {z = pos 4} tt) w.y1)))
+      (within_add (within_mul u.r1 (area_within v w)) (within_mul numerator_a_within (within_sub (within_lit {n = 4} {z = pos 4} tt) w.x1)))
+      (within_mul numerator_b_within (within_sub (within_lit {n = 4} {z = pos 4} tt) w.y1)))
+
+module _ (s : Solvable) where
+  pub a_within : Within 2147418112 (numerator_a s.corners.vertices s.values)
+  a_within = numerator_a_within s.corners.vertices s.values (within s)
+
+  pub b_within : Within 2147418112 (numerator_b s.corners.vertices s.values)
+  b_within = numerator_b_within s.corners.vertices s.values (within s)
+
+  pub numerator_within : Within 52792126865408 (numerator s.corners.vertices s.values (sample 0 0))
+  numerator_within = exact_within s.corners.vertices s.values (within s)
 
 -- what a callee answered, as the machine has it
 module _ {b : ℕ} {z y : ℤ} (e : z ≡ y) (h : Within b y) where
@@ -164,6 +174,12 @@ rounded_within : {b : ℕ} {n : ℤ} (d : ℤ) → Within b n → Within b (roun
 unfolding rounded_down
 rounded_within d h = within_shr (nat_abs d) h
 
+pub can_divide : {n d x y : ℤ} → x ≡ n → y ≡ d → Within 4611686018427387904 n → pos 0 <ℤ d → CanDivide x y
+can_divide {n} {d} p q h l = record {
+  small = subst (λ (z : ℤ). nat_abs z ≤ 4611686018427387904) (sym p) h.within;
+  positive = subst (λ (z : ℤ). pos 0 <ℤ z) (sym q) l;
+}
+
 pub area_is_within : (s : Solvable) → Within 536870912 s.area
 area_is_within s = subst (Within 536870912) (sym s.is_area) (area_within s.corners.vertices (within s).vertices)
 
@@ -174,12 +190,15 @@ pub units_within : {n : ℤ} (v : Vertices)
     → Within 3459784826251378688 (rounded_down (in_units n) (doubled_area v))
 units_within v h = rounded_within (doubled_area v) (within_mul (within_lit {n = 65536} {z = pos 65536} tt) h)
 
+pub can_divide_by_area : {n z : ℤ} → z ≡ n → Within 52792126865408 n → nat_abs z ≤ 52792126865408
+can_divide_by_area e h = subst (λ (y : ℤ). nat_abs y ≤ 52792126865408) (sym e) h.within
+
 -- eight times a numerator of A or B, as it is answered
 
 abbrev pub eight_c : {z y : ℤ} → z ≡ y → Within 2147418112 y → Code w64
 eight_c e h = known (got_lit w64 8 tt) ⊠ known (got_answer e h tt)
 
-in_eights : {n : ℤ} → Within 2147418112 n → Within 52792126865408 (pos 8 *ℤ n)
+pub in_eights : {n : ℤ} → Within 2147418112 n → Within 52792126865408 (pos 8 *ℤ n)
 in_eights h = within_le (omega arith) (within_mul (within_lit {n = 8} {z = pos 8} tt) h)
 
 pub eight_small : {z y : ℤ} → z ≡ y → Within 2147418112 y → nat_abs (to_z w64 (of_z w64 (pos 8 *ℤ to_z w64 (of_z w64 z)))) ≤ 52792126865408
@@ -187,3 +206,18 @@ eight_small e h = subst (λ (x : ℤ). nat_abs x ≤ 52792126865408) (sym (reads
 
 pub answer_small : {z y : ℤ} → z ≡ y → Within 52792126865408 y → nat_abs (to_z w64 (of_z w64 z)) ≤ 52792126865408
 answer_small e h = subst (λ (x : ℤ). nat_abs x ≤ 52792126865408) (sym (answered e h tt)) h.within
+
+-- the three numbers, before it is known whether they fit 32 bits
+
+module _ (v : Vertices) (r : Values) (h : AllWithin v r) where
+  pub c-small : Within 3459784826251379807 (through_c v r)
+  unfolding through_c
+  c-small = within_add (units_within v (exact_within v r h)) (within_lit {n = 1119} {z = raise} tt)
+
+  pub a_small : Within 3459784826251378688 (through_a v r)
+  unfolding through_a
+  a_small = units_within v (in_eights (numerator_a_within v r h))
+
+  pub b-small : Within 3459784826251378688 (through_b v r)
+  unfolding through_b
+  b-small = units_within v (in_eights (numerator_b_within v r h))
