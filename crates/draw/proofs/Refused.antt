@@ -21,7 +21,7 @@ use Rattle.rules.specs.Sizes.{width, height}
 use Rattle.rules.specs.Numbers.{screen_number, triangle_number, vertices_in_range, triangle_too_large}
 use Rattle.rules.specs.Triangles.{covered_pixels, written_pixels, drawn}
 use Rattle.rules.specs.Calls.{Draws}
-use Rattle.rules.proofs.Pixels.{Sound, sound_facts, width-le}
+use Rattle.rules.proofs.Pixels.{Sound, sound_facts, width-le, height-le}
 use Rattle.rules.proofs.Choices.{accepted_no, accepted_yes}
 use Rattle.rules.proofs.Refusals.{ScreenPasses, screen_passed, screen_refuses, others_follow, screen_number_passed}
 use Rattle.rows.specs.Lines.{Drawing}
@@ -106,6 +106,19 @@ module _ (n : ℕ) (s : Screen) (z : 0 ≡ screen_number n s) where
       pub all_passed : large ≡ false → 0 ≡ triangle_number n s t
       all_passed = judged false
 
+-- what the tests ask of the vertices and the size, where k is the screen's number and b says that the vertices are in range
+module _ (n : ℕ) (s : Screen) (t : Triangle) (k : ℕ) (e : k ≡ screen_number n s) (z : k ≡ 0) (b : Bool) (v : b ≡ vertices_in_range t.vertices)
+    (w h : ℕ) (f : b ≡ true) (p : w ≡ width s.size) (q : h ≡ height s.size) where
+  pub size_asked : (vertices_in_range t.vertices ≡ true) × (1 ≤ w) × (w ≤ 640) × (1 ≤ h) × (h ≤ 512)
+  size_asked =
+      let k = sound_facts (screen_number_passed (sym e ∙ z)).is_sound in (
+        sym v ∙ f,
+        omega (arith, p, k.groups_low),
+        omega (arith, p, width-le k),
+        omega (arith, q, k.height_low),
+        omega (arith, q, height-le k),
+      )
+
 -- what `draw` asks of its callees where nothing is refused
 module _ (n : ℕ) (s : Screen) (t : Triangle) (z : triangle_number n s t ≡ 0) where
   pub frame_asked : FrameAsked n s t
@@ -118,6 +131,13 @@ module _ (n : ℕ) (s : Screen) (t : Triangle) (z : triangle_number n s t ≡ 0)
         lies_on_screen = subst (λ (m : ℕ). x < m) i h;
         others = subst (λ (m : ℕ). NothingBut t.vertices m x) i alone;
       }
+
+-- and of a lone column, where k is the number
+module _ (n : ℕ) (s : Screen) (t : Triangle) (k : ℕ) (e : k ≡ triangle_number n s t) (z : k ≡ 0) (w : ℕ) (i : w ≡ width s.size) where
+  pub column_asked : (vertices_in_range t.vertices ≡ true) × (w ≤ 640)
+  column_asked =
+      let a = frame_asked n s t (sym e ∙ z) in
+      (a.in_range, omega (arith, i, width-le (sound_facts a.is_sound)))
 
 module _ (m : List ℕ) (s : Screen) (t : Triangle) where
   abbrev N : ℕ
