@@ -2,7 +2,7 @@
 -- are what they are read back as.
 use Prim.Native.Nat.{ℕ, ◌+◌, ◌≤◌, ◌<◌}
 use mathlib.Core.Bool.{Bool, true, false}
-use mathlib.Core.Path.{◌≡◌, refl, sym, ◌∙◌, subst, subst₂}
+use mathlib.Core.Path.{◌≡◌, refl, sym, ◌∙◌, ap₂, subst, subst₂}
 use mathlib.Core.Logic.{◌⊎◌, inl, inr}
 use mathlib.Core.List.{List}
 use native.Mathlib.Omega.{arith}
@@ -18,6 +18,10 @@ use Rattle.std.specs.Int.{int_max, int_min}
 use Rattle.std.proofs.lemmas.List.{get_or-take, get_or-drop}
 use Rattle.waveform.proofs.Extremes.{Ordered}
 use Rattle.samples.specs.Reached.{Between, at, LaterOf, Last, ◌≥ℤ◌}
+
+-- two numbers of 16 bits, compared as they are read
+pub compared : {a b : ℤ} → SFits w16 a → SFits w16 b → lt_z (to_z w16 (of_z w16 a)) (to_z w16 (of_z w16 b)) ≡ lt_z a b
+compared {a} {b} f g = ap₂ lt_z (to_z-of_z w16 a f) (to_z-of_z w16 b g)
 
 one_of : {a b r : ℤ} (t : Bool) → r ≡ cond t a b → (r ≡ a) ⊎ (r ≡ b)
 one_of true e = inl e
@@ -36,6 +40,17 @@ pub lesser : {a b r : ℤ} → r ≡ int_min a b → r ≤ℤ a → r ≤ℤ b �
 lesser {a} {b} e f g = record { one = swapped (one_of (lt_z b a) e); after_first = f; after_second = g }
 
 module _ {before : ℤ → ℤ → Type 0} (o : Ordered before) where
+  module _ {a b : ℤ} where
+    pub later_second : SFits w16 b → before a b → LaterOf before a b (to_z w16 (of_z w16 b))
+    later_second f h =
+        subst (LaterOf before a b) (sym (to_z-of_z w16 b f))
+        (record { one = inr refl; after_first = h; after_second = o.itself b })
+
+    pub later_first : SFits w16 a → before b a → LaterOf before a b (to_z w16 (of_z w16 a))
+    later_first f h =
+        subst (LaterOf before a b) (sym (to_z-of_z w16 a f))
+        (record { one = inl refl; after_first = o.itself a; after_second = h })
+
   module _ {samples : List ℤ} {from : ℕ} where
     -- the first sample alone
     last-first : Last before samples from (from + 1) (at samples from)
