@@ -1,17 +1,18 @@
 -- Laws of masks: the ones of a mask are the leaves it names, the mask of a span is the difference of two powers of two, the masks of
--- four groups side by side are one mask of 64 columns.
+-- four groups side by side are one mask of 64 columns, and the top bit of such a word is its first column.
 use Prim.Native.Nat.{ℕ, zero, suc, ◌+◌, ◌*◌, ◌-◌, ◌/◌, ◌%◌, ◌^◌, ◌≤◌, ◌<◌}
-use mathlib.Core.Path.{◌≡◌, refl, sym, ◌∙◌, ap, ap₂}
+use mathlib.Core.Path.{◌≡◌, refl, sym, ◌∙◌, ap, ap₂, subst}
 use mathlib.Core.Bool.{Bool, true, false, ◌&&◌}
 use mathlib.Core.List.{List, [], ◌∷◌}
 use lib.Bits.{bit_or}
 use lib.ListN.{length, get_or}
 use Rattle.std.proofs.lemmas.Nat.{or_shifted}
-use native.Mathlib.Nat.{pow-suc, add-zero, add-suc, mul_assoc, mod-eq_of_lt}
+use native.Mathlib.Nat.{pow-suc, add-zero, zero-add, add-suc, add-mul, mul_assoc, mod-eq_of_lt}
 use native.Mathlib.Omega.{arith}
 use lib.Dec.{ltb, leb}
 use lib.Count.{ones, ones_in, ones_cat}
-use lib.Pow.{pow_pos, high, ones_lt, ones_split}
+use lib.Arith.{digits_mod}
+use lib.Pow.{pow_pos, pow-add, shl_lt, high, ones_lt, ones_split}
 use borrow.Author.Tests.{ltb-true, ltb-false, leb-true, leb-false}
 use Rattle.rules.specs.Folds.{bit, how_many}
 use Rattle.rules.proofs.Choices.{bit_le}
@@ -165,3 +166,91 @@ masks_same f g e h =
     let r = mask_same (λ k. f (32 + k)) (λ k. g (32 + k)) 16 (λ k l. e (32 + k) (omega arith)) in
     let s = mask_same (λ k. f (48 + k)) (λ k. g (48 + k)) 16 (λ k l. e (48 + k) (omega arith)) in
     record { groups = h.groups ∙ (λ i. p i ∷ q i ∷ r i ∷ s i ∷ []) }
+
+-- A word of 64 bits whose top n are a mask, all others clear: its top bit is the first leaf, and doubled it is the mask without that leaf.
+abbrev pub Left : (ℕ → Bool) → ℕ → ℕ → Type 0
+Left f n on = on ≡ mask_of f n * 2 ^ (64 - n)
+
+module _ (f : ℕ → Bool) where
+  -- the first z columns shifted out
+  pub left_skip : (z : ℕ) → z ≤ 64 → Left (λ k. f (z + k)) (64 - z) (mask_of f 64 * 2 ^ z % 2 ^ 64)
+  left_skip z h =
+      let e : z + (64 - z) ≡ 64 = omega arith in
+      let i : (64 - z) + z ≡ 64 = omega arith in
+      let j : 64 - (64 - z) ≡ z = omega arith in
+      let rest = mask_of (λ k. f (z + k)) (64 - z) in
+      let p : mask_of f 64 ≡ mask_of f z * 2 ^ (64 - z) + rest = ap (mask_of f) (sym e) ∙ mask_cat f z (64 - z) in
+      let w : 2 ^ (64 - z) * 2 ^ z ≡ 2 ^ 64 = sym (pow-add 2 (64 - z) z) ∙ ap (λ (k : ℕ). 2 ^ k) i in
+      let l : rest * 2 ^ z < 2 ^ 64 =
+      subst (λ (k : ℕ). rest * 2 ^ z < 2 ^ k) i (shl_lt (64 - z) z (mask_lt (λ k. f (z + k)) (64 - z))) in
+      ap (λ (k : ℕ). k * 2 ^ z % 2 ^ 64) p
+      ∙ ap (λ (k : ℕ). k % 2 ^ 64) (add-mul (mask_of f z * 2 ^ (64 - z)) rest (2 ^ z)
+      ∙ ap (λ (k : ℕ). k + rest * 2 ^ z) (mul_assoc (mask_of f z) (2 ^ (64 - z)) (2 ^ z) ∙ ap (λ (k : ℕ). mask_of f z * k) w))
+      ∙ digits_mod (mask_of f z) l
+      ∙ ap (λ (k : ℕ). rest * 2 ^ k) (sym j)
+
+  first_leaf : mask_of f 1 ≡ bit (f 0)
+  unfolding mask_of
+  first_leaf = zero-add (bit (f 0))
+
+  module _ (r : ℕ) (h : r < 64) where
+    abbrev rest : ℕ
+    rest = mask_of (λ k. f (1 + k)) r * 2 ^ (63 - r)
+
+    -- the first leaf in the top bit, and the others below it
+    parts : mask_of f (1 + r) * 2 ^ (63 - r) ≡ bit (f 0) * 9223372036854775808 + rest
+    parts =
+        let e : r + (63 - r) ≡ 63 = omega arith in
+        let w : 2 ^ r * 2 ^ (63 - r) ≡ 9223372036854775808 = sym (pow-add 2 r (63 - r)) ∙ ap (λ (k : ℕ). 2 ^ k) e in
+        ap (λ (k : ℕ). k * 2 ^ (63 - r)) (mask_cat f 1 r ∙ ap (λ (k : ℕ). k * 2 ^ r + mask_of (λ j. f (1 + j)) r) first_leaf)
+        ∙ add-mul (bit (f 0) * 2 ^ r) (mask_of (λ k. f (1 + k)) r) (2 ^ (63 - r))
+        ∙ ap (λ (k : ℕ). k + rest) (mul_assoc (bit (f 0)) (2 ^ r) (2 ^ (63 - r)) ∙ ap (λ (k : ℕ). bit (f 0) * k) w)
+
+    rest_lt : rest < 9223372036854775808
+    rest_lt =
+        let e : r + (63 - r) ≡ 63 = omega arith in
+        subst (λ (k : ℕ). rest < 2 ^ k) e (shl_lt r (63 - r) (mask_lt (λ k. f (1 + k)) r))
+
+    rest_doubled : rest * 2 ≡ mask_of (λ k. f (1 + k)) r * 2 ^ (64 - r)
+    rest_doubled =
+        let e : 64 - r ≡ suc (63 - r) = omega arith in
+        mul_assoc (mask_of (λ k. f (1 + k)) r) (2 ^ (63 - r)) 2
+        ∙ ap (λ (k : ℕ). mask_of (λ k. f (1 + k)) r * k) (sym (ap (λ (k : ℕ). 2 ^ k) e ∙ pow-suc 2 (63 - r)))
+
+    word_is : (on : ℕ) → Left f (suc r) on → on ≡ bit (f 0) * 9223372036854775808 + rest
+    word_is on l =
+        let e : 64 - suc r ≡ 63 - r = omega arith in
+        let i : suc r ≡ 1 + r = omega arith in
+        l ∙ ap₂ (λ (n k : ℕ). mask_of f n * 2 ^ k) i e ∙ parts
+
+  pub top_set : (n on : ℕ) → n ≤ 64 → Left f n on → 9223372036854775808 ≤ on
+      → (0 < n) × (f 0 ≡ true) × Left (λ k. f (1 + k)) (n - 1) (on * 2 % 2 ^ 64)
+  unfolding mask_of
+  top_set zero on h l t = absurd (omega (arith, l))
+  top_set (suc r) on h l t = go (f 0) refl
+    where
+      k : r < 64
+      k = omega arith
+
+      go : (b : Bool) → f 0 ≡ b → (0 < suc r) × (f 0 ≡ true) × Left (λ k. f (1 + k)) (suc r - 1) (on * 2 % 2 ^ 64)
+      go true e =
+          let i : r ≡ suc r - 1 = omega arith in
+          let b : bit (f 0) ≡ 1 = ap bit e in
+          let d : on * 2 % 2 ^ 64 ≡ rest r k * 2 = omega (arith, word_is r k on l, rest_lt r k) in (
+            omega arith,
+            e,
+            d ∙ rest_doubled r k ∙ ap (λ (n : ℕ). mask_of (λ j. f (1 + j)) n * 2 ^ (64 - n)) i,
+          )
+      go false e =
+          let b : bit (f 0) ≡ 0 = ap bit e in
+          absurd (omega (arith, word_is r k on l, rest_lt r k))
+
+  pub top_clear : (n on : ℕ) → n ≤ 64 → Left f n on → on < 9223372036854775808 → 0 < n → f 0 ≡ false
+  top_clear zero on h l t p = absurd (omega arith)
+  top_clear (suc r) on h l t p = go (f 0) refl
+    where
+      go : (b : Bool) → f 0 ≡ b → f 0 ≡ false
+      go true e =
+          let b : bit (f 0) ≡ 1 = ap bit e in
+          absurd (omega (arith, word_is r (omega arith) on l))
+      go false e = e
