@@ -75,11 +75,12 @@ module _ {m k : List ℕ} {s : Screen} {a b : Triangle} {p : Pixel} {n : ℕ} (c
     pub first_drawn : IsOk r
     first_drawn = not_refused r (draw_accepted d cleared can.first)
 
-    module _ {after : List ℕ} (r' : Result Counts Refusal) (d' : Draws l s b (drawn_of r') after) where
-      pub second_drawn : IsOk r'
-      second_drawn = not_refused r' (draw_accepted d' drawn can.second)
+    module _ {after : List ℕ} (r' : Result Counts Refusal) where
+      -- of either triangle
+      pub second_drawn : {t : Triangle} → Draws l s t (drawn_of r') after → vertices_in_range t.vertices ≡ true → IsOk r'
+      second_drawn d' i = not_refused r' (draw_accepted d' drawn i)
 
-      pub pair_painted : PairPainted s (scene p a b) m after
-      pair_painted =
+      pub pair_painted : Draws l s b (drawn_of r') after → PairPainted s (scene p a b) m after
+      pair_painted d' =
           clear_then_list c (c.answers ∙ can.screen)
           (call d (draw_accepted d cleared can.first) (call d' (draw_accepted d' drawn can.second) none))

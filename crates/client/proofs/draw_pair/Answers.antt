@@ -6,7 +6,7 @@ pub unwrap-requires-2 : goal.unwrap-requires-2
 unwrap-requires-2 c = first_drawn c.requires c.clear.ensures _ c.draw.ensures
 
 pub unwrap-requires-3 : goal.unwrap-requires-3
-unwrap-requires-3 c = second_drawn c.requires c.clear.ensures _ c.draw.ensures _ c.draw-2.ensures
+unwrap-requires-3 c = second_drawn c.requires c.clear.ensures _ c.draw.ensures _ c.draw-2.ensures (assumption c.requires)
 
 pub returns : goal.returns
 returns c = pair_painted c.requires c.clear.ensures _ c.draw.ensures _ c.draw-2.ensures
