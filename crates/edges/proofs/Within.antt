@@ -106,6 +106,26 @@ six v h =
     let b = and_true {a = X1} {b = Y1} c.0 in
     record { in_x1 = b.0; in_y1 = b.1; in_x2 = c.1; in_y2 = d.1; in_x3 = e.1; in_y3 = f.1 }
 
+-- An edge of any four numbers in range, and vertices of any six.
+pub four_in_range : (a b c d : ℤ)
+    → vertex_in_range a ≡ true
+    → vertex_in_range b ≡ true
+    → vertex_in_range c ≡ true
+    → vertex_in_range d ≡ true
+    → edge_in_range (edge_from a b c d) ≡ true
+four_in_range a b c d p q r s = rw (p, q, r, s)
+
+pub six_in_range : (v : Vertices)
+    → vertex_in_range v.x1 ≡ true
+    → vertex_in_range v.y1 ≡ true
+    → vertex_in_range v.x2 ≡ true
+    → vertex_in_range v.y2 ≡ true
+    → vertex_in_range v.x3 ≡ true
+    → vertex_in_range v.y3 ≡ true
+    → vertices_in_range v ≡ true
+unfolding vertices_in_range
+six_in_range v p q r s t u = rw (p, q, r, s, t, u)
+
 module _ (v : Vertices) (h : vertices_in_range v ≡ true) where
   pub edge1_in_range : edge_in_range (edge1 v) ≡ true
   edge1_in_range = let s = six v h in rw (s.in_x1, s.in_y1, s.in_x2, s.in_y2)
