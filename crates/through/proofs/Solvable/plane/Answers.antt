@@ -7,6 +7,22 @@ use Rattle.interpolation.specs.Refusals.{c_outside, a_outside, b_outside}
 use Rattle.through.proofs.Answers.{judged, narrowed, lacking, has_plane, passes}
 use Rattle.through.proofs.Solvable.plane.Goals as goal
 
+pub returns : goal.returns
+unfolding plane_through
+returns c =
+    let s = c.args.self in
+    passes s
+    (has_plane s
+    (judged c.c.ensures c.c.type_inv c.in_ok-signed32.ensures.fits)
+    (judged c.a.ensures c.a.type_inv c.in_ok-signed32-2.ensures.fits)
+    (judged c.b.ensures c.b.type_inv c.in_ok-signed32-3.ensures.fits))
+    (λ i.
+    record {
+      c = narrowed c.in_ok-signed32.ensures.value c.c.ensures c.c.type_inv c.in_ok-signed32.ensures.fits i;
+      a = narrowed c.in_ok-signed32-2.ensures.value c.a.ensures c.a.type_inv c.in_ok-signed32-2.ensures.fits i;
+      b = narrowed c.in_ok-signed32-3.ensures.value c.b.ensures c.b.type_inv c.in_ok-signed32-3.ensures.fits i;
+    })
+
 pub returns-in_err-signed32 : goal.returns-in_err-signed32
 returns-in_err-signed32 c =
     let s = c.args.self in
@@ -24,19 +40,3 @@ returns-in_err-signed32-3 c =
     let s = c.args.self in
     let is : through_number s.corners.vertices s.values ≡ 9 = lacking s (b_outside (judged c.b.ensures c.b.type_inv c.in_err-signed32-3.ensures.outside)) in
     grind (arith, common_steps)
-
-pub returns : goal.returns
-unfolding plane_through
-returns c =
-    let s = c.args.self in
-    passes s
-    (has_plane s
-    (judged c.c.ensures c.c.type_inv c.in_ok-signed32.ensures.fits)
-    (judged c.a.ensures c.a.type_inv c.in_ok-signed32-2.ensures.fits)
-    (judged c.b.ensures c.b.type_inv c.in_ok-signed32-3.ensures.fits))
-    (λ i.
-    record {
-      c = narrowed c.in_ok-signed32.ensures.value c.c.ensures c.c.type_inv c.in_ok-signed32.ensures.fits i;
-      a = narrowed c.in_ok-signed32-2.ensures.value c.a.ensures c.a.type_inv c.in_ok-signed32-2.ensures.fits i;
-      b = narrowed c.in_ok-signed32-3.ensures.value c.b.ensures c.b.type_inv c.in_ok-signed32-3.ensures.fits i;
-    })
