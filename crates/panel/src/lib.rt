@@ -22,7 +22,6 @@ use samples::{ends, reached, row_of};
 use screen::sizes::{height, width};
 
 // Two triangles, which run along their common diagonal in opposite directions.
-#[inline(never)]
 fn fill(ram: &mut [u8], s: Screen, b: Bar) -> u32
     requires { BarFits (length ram.old) s (bar_of b) }
     ensures { PixelsDrawn s (in_bar (bar_of b)) (λ _ _. pixel b.colour 0) ram.old result ram.new }
