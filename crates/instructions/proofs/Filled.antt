@@ -1,5 +1,5 @@
--- The one law of the leaf loops, over any f: an array that a loop fills leaf by leaf has, after k passes, what f says of each leaf below k,
--- and from k on what it had; after sixteen passes it is `leaves f`.
+-- An array that a loop fills leaf by leaf, over any f: after k passes it has what f says of each leaf below k, and from k on what it had;
+-- after sixteen passes it is `leaves f`. Code here makes its arrays by `from_fn`, whose law is in `Made`.
 use Prim.Native.Nat.{ℕ, zero, suc, ◌+◌, ◌<◌}
 use mathlib.Core.Path.{◌≡◌, refl, sym, ◌∙◌, ap, ap₂}
 use mathlib.Core.List.{List, [], ◌∷◌, ◌++◌, append-nil}

@@ -10,7 +10,7 @@ use Rattle.pieces.specs.declared.state.Cpu.{Cpu}
 use Rattle.pieces.specs.declared.state.View.{View}
 use Rattle.pieces.specs.Pieces.{machine}
 
--- the step of a state that is not halted, at the word w
+-- the step at the word w, which does not look at the halt number that stands there: a run takes none from a halted state
 unfoldable pub stepped : Machine → ℕ → Machine
 stepped m w =
     choose (eqb (word_halt current (length m.ram) m.state w) 0) (performed m w)
