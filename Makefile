@@ -49,7 +49,9 @@ target/panel-%.png: command
 demo:
 	tools/demonstration
 
+# rt ci refuses the links of an earlier run's install.
 check:
+	rm -rf target/install
 	bash .ci/run
 
 bench: $(NATIVE)/libmerikohin.a
